@@ -1,0 +1,89 @@
+-- What a saved pressure has and every change of the reference keeps, the reference has after any number of reports.
+use mathlib.Core.Path.{_≡_, refl, sym, subst}
+use mathlib.Core.List.{List, [], _∷_}
+use Prim.Native.Nat.{ℕ, _+_, _*_}
+use native.Mathlib.Omega.{arith}
+use mathlib.Core.Bool.{Bool, true, false, cond}
+use borrow.Author.Tests.{le-ltb}
+use lib.Dec.{ltb}
+use lib.IntN.{ℤ}
+use lib.Ieee.{Float, nan, inf, fin, up, down, lt}
+use Rattle.pressure.specs.Reference.{isSinking, changedReference}
+use Rattle.pressure.specs.Phases.{isNormal, isFar, waitedOf, settledOf, setOf}
+use Rattle.pressure.specs.Report.{pressureAt, phaseAfter}
+use Rattle.pressure.specs.Claims.{phaseAfterAll, Each}
+use Rattle.pressure.proofs.Settling.{after-waiting, after-settling, after-set}
+use Rattle.pressure.specs.declared.Feed.{Feed}
+use Rattle.pressure.specs.declared.Phase.{Phase}
+use Rattle.pressure.specs.declared.Phase.the-variants.{Waiting, Settling, Set}
+
+lt-self : (x : Float) → lt x x ≡ false
+unfolding lt
+lt-self nan = refl
+lt-self (inf true) = refl
+lt-self (inf false) = refl
+lt-self (fin true m e) = le-ltb (m * up e * down e) (m * up e * down e) (omega arith)
+lt-self (fin false m e) = le-ltb (m * up e * down e) (m * up e * down e) (omega arith)
+
+-- with P_INT at P_REF nothing changes
+pub changed-level : (r : Float) → changedReference (record { pressure = r; reference = r }) ≡ r
+unfolding changedReference isSinking
+changed-level r = rw (lt-self r)
+
+-- the property, at the figure that a phase carries
+abbrev Carries : (Float → Type 0) → Phase → Type 0
+Carries R Waiting = Unit {0}
+Carries R (Settling saved n) = R saved
+Carries R (Set r n) = R r
+
+abbrev changedBy : Feed → ℕ → Float → ℕ → ℤ → Float
+changedBy feed full r n x = changedReference (record { pressure = pressureAt (Set r n) feed full x; reference = r })
+
+module _
+    (feed : Feed)
+    (full : ℕ)
+    (Reads : ℤ → Type 0)
+    (R : Float → Type 0)
+    (saves : (x : ℤ) → Reads x → isNormal (pressureAt Waiting feed full x) ≡ true → R (pressureAt Waiting feed full x))
+    (changes : (r : Float) (n : ℕ) (x : ℤ) → Reads x → R r → R (changedBy feed full r n x))
+  where
+    waited : (x : ℤ) → Reads x → Carries R (waitedOf (pressureAt Waiting feed full x))
+    unfolding waitedOf
+    waited x ok = go (isNormal (pressureAt Waiting feed full x)) refl
+      where
+        go : (b : Bool) → isNormal (pressureAt Waiting feed full x) ≡ b → Carries R (cond b (Settling (pressureAt Waiting feed full x) 0) Waiting)
+        go true e = saves x ok e
+        go false e = tt
+
+    settled : (saved : Float) (n : ℕ) → R saved → Carries R (settledOf saved n)
+    unfolding settledOf
+    settled saved n h = go (ltb (n + 1) 30)
+      where
+        go : (b : Bool) → Carries R (cond b (Settling saved (n + 1)) (Set saved 0))
+        go true = h
+        go false = h
+
+    set : (r : Float) (n : ℕ) (x : ℤ) → Reads x → R r → Carries R (setOf r n (pressureAt (Set r n) feed full x))
+    unfolding setOf
+    set r n x ok h = go (ltb (n + 1) 10)
+      where
+        go : (b : Bool) → Carries R (cond b (Set r (n + 1)) (Set (changedBy feed full r n x) 0))
+        go true = h
+        go false = changes r n x ok h
+
+    step : (phase : Phase) (x : ℤ) → Reads x → Carries R phase → Carries R (phaseAfter phase feed full x)
+    step Waiting x ok h = subst (Carries R) (sym (after-waiting feed full x)) (waited x ok)
+    step (Settling saved n) x ok h = subst (Carries R) (sym (after-settling feed full saved n x)) (go (isFar saved (pressureAt Waiting feed full x)))
+      where
+        go : (b : Bool) → Carries R (cond b (waitedOf (pressureAt Waiting feed full x)) (settledOf saved n))
+        go true = waited x ok
+        go false = settled saved n h
+    step (Set r n) x ok h = subst (Carries R) (sym (after-set feed full r n x)) (set r n x ok h)
+
+    steps : (phase : Phase) (xs : List ℤ) → Each Reads xs → Carries R phase → Carries R (phaseAfterAll phase feed full xs)
+    unfolding phaseAfterAll
+    steps phase [] ok h = h
+    steps phase (x ∷ xs) ok h = steps (phaseAfter phase feed full x) xs (ok .1) (step phase x (ok .0) h)
+
+    pub kept : (xs : List ℤ) (r : Float) (n : ℕ) → Each Reads xs → phaseAfterAll Waiting feed full xs ≡ Set r n → R r
+    kept xs r n ok e = subst (Carries R) e (steps Waiting xs ok tt)

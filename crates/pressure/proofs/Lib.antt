@@ -1,0 +1,9 @@
+pub mod Rounding
+pub mod Halves
+pub mod Cylinder
+pub mod Settling
+pub mod Drop
+pub mod Keeping
+pub mod Range
+pub mod PipeReference
+pub mod Figures
