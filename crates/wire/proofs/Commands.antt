@@ -1,0 +1,95 @@
+-- A command's form and the splitting of a stream go by the same lengths. Assumes nothing.
+use Prim.Native.Nat.{ℕ, _+_, _≤_, _<_}
+use mathlib.Core.Path.{_≡_, refl, sym, ap}
+use mathlib.Core.Bool.{Bool, true, false, cond, not}
+use mathlib.Core.Option.{none, some}
+use mathlib.Core.List.{List, _++_}
+use native.Mathlib.Omega.{arith}
+use lib.Dec.{eqb, ltb}
+use lib.ListN.{length, take, length-append, List·getD-append}
+use lib.Seq.{length-take-le, getD-take}
+use borrow.Author.Tests.{eqb-true, ltb-true, ltb-false, le-ltb, eq-eqb, ne-eqb, not-false}
+use Rattle.wire.specs.declared.codes.Length.{Length}
+use Rattle.wire.specs.declared.form.Form.{Form}
+use Rattle.wire.specs.declared.split.Next.{Next}
+use Rattle.wire.specs.Codes.{lengthOf}
+use Rattle.wire.specs.Form.{codeForm, formOf, refusalOf, reportLength}
+use Rattle.wire.specs.Numbers.{byteAt}
+use Rattle.wire.specs.Split.{codeNext, nextOf, nextRefusal}
+use Rattle.wire.proofs.Lists.{never, cond-first, cond-second}
+use Rattle.wire.proofs.Table.{lengths-within}
+
+codeForm-whole : (l : Length) (n : ℕ) → codeForm l n ≡ Form.Whole → l ≡ Length.Bytes n
+unfolding codeForm
+codeForm-whole Length.NoCode n e = absurd (never (cc))
+codeForm-whole (Length.Bytes m) n e =
+    ap Length.Bytes (sym (eqb-true n m (cond-first (eqb n m) Form.Whole Form.WrongLength e (λ p. never (cc)) .0)))
+
+-- a command of whole form has the right report area, and is as long as its code says
+pub whole-area : (s : List ℕ) (area : ℕ) → formOf s area ≡ Form.Whole → area ≡ reportLength
+unfolding formOf
+whole-area s area e =
+    eqb-true area reportLength (not-false _ (cond-second (not (eqb area reportLength)) Form.WrongArea _ e (λ p. never (cc)) .0))
+
+pub whole-length : (s : List ℕ) (area : ℕ) → formOf s area ≡ Form.Whole → lengthOf (byteAt s 0) ≡ Length.Bytes (length s)
+unfolding formOf
+whole-length s area e =
+    let p = cond-second (not (eqb area reportLength)) Form.WrongArea _ e (λ p. never (cc)) in
+    let q = cond-second (eqb (length s) 0) Form.NoBytes _ (p .1) (λ p. never (cc)) in
+    codeForm-whole (lengthOf (byteAt s 0)) (length s) (q .1)
+
+pub whole-five : (s : List ℕ) (area : ℕ) → formOf s area ≡ Form.Whole → 5 ≤ length s
+whole-five s area e = lengths-within (byteAt s 0) (length s) (whole-length s area e) .0
+
+pub length-whole : (s : List ℕ) → lengthOf (byteAt s 0) ≡ Length.Bytes (length s) → formOf s reportLength ≡ Form.Whole
+unfolding formOf codeForm
+length-whole s e =
+    let h : 5 ≤ length s = lengths-within (byteAt s 0) (length s) e .0 in
+    simp (ne-eqb (length s) 0 (omega arith), e, eq-eqb (length s) (length s) refl)
+
+codeNext-command : (l : Length) (left : ℕ) {n : ℕ} → codeNext l left ≡ Next.Command n → (l ≡ Length.Bytes n) × (n ≤ left)
+unfolding codeNext
+codeNext-command Length.NoCode left e = absurd (never (cc))
+codeNext-command (Length.Bytes m) left {n} e =
+    let p = cond-second (ltb left m) Next.Short (Next.Command m) e (λ q. never (cc)) in
+    let m-n : m ≡ n = cc (p .1) in
+    (ap Length.Bytes m-n, rw m-n at (ltb-false left m (p .0)))
+
+-- a command that is split off a stream has the whole form
+pub split-whole : (s : List ℕ) (n : ℕ) → nextOf s ≡ Next.Command n → (n ≤ length s) × (formOf (take n s) reportLength ≡ Form.Whole)
+unfolding nextOf
+split-whole s n e =
+    let p = cond-second (eqb (length s) 0) Next.End _ e (λ q. never (cc)) in
+    let (l, h) = codeNext-command (lengthOf (byteAt s 0)) (length s) (p .1) in
+    let k : 5 ≤ n = lengths-within (byteAt s 0) n l .0 in
+    (h, length-whole (take n s) (rw (getD-take n s 0 0 (omega arith), length-take-le n s h) l))
+
+-- and one of whole form is split off whatever follows it
+pub whole-split : (s rest : List ℕ) (area : ℕ) → formOf s area ≡ Form.Whole → nextOf (s ++ rest) ≡ Next.Command (length s)
+unfolding nextOf codeNext
+whole-split s rest area e =
+    let h : 5 ≤ length s = whole-five s area e in
+    let first : byteAt (s ++ rest) 0 ≡ byteAt s 0 = List·getD-append s rest 0 0 (omega arith) in
+    let some-bytes = ne-eqb (length s + length rest) 0 (omega arith) in
+    let enough = le-ltb (length s + length rest) (length s) (omega arith) in
+    rw (length-append, first, whole-length s area e, some-bytes, enough)
+
+code-refused : (l : Length) (n r : ℕ) → nextRefusal (codeNext l n) ≡ some r → refusalOf (codeForm l n) ≡ some r
+unfolding codeNext codeForm nextRefusal refusalOf
+code-refused Length.NoCode n r e = e
+code-refused (Length.Bytes m) n r e = by (ltb n m) refl
+  where
+    by : (t : Bool) → ltb n m ≡ t → refusalOf (cond (eqb n m) Form.Whole Form.WrongLength) ≡ some r
+    by true t = let h : n < m = ltb-true n m t in rw (ne-eqb n m (omega arith)) (rw t at e)
+    by false t = let z : none ≡ some r = rw t at e in absurd (never (cc))
+
+rest-by : (t : Bool) (l : Length) (n r : ℕ)
+    → nextRefusal (cond t Next.End (codeNext l n)) ≡ some r → refusalOf (cond t Form.NoBytes (codeForm l n)) ≡ some r
+unfolding nextRefusal
+rest-by true l n r e = absurd (never (cc))
+rest-by false l n r e = code-refused l n r e
+
+-- a refusal of a stream is the refusal that the whole rest gets as a command
+pub rest-refused : (s : List ℕ) (r : ℕ) → nextRefusal (nextOf s) ≡ some r → refusalOf (formOf s reportLength) ≡ some r
+unfolding nextOf formOf
+rest-refused s r e = rest-by (eqb (length s) 0) (lengthOf (byteAt s 0)) (length s) r e

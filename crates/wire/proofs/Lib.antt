@@ -1,0 +1,5 @@
+pub mod Commands
+pub mod Equal
+pub mod Lists
+pub mod Table
+pub mod Values

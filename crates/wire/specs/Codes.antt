@@ -1,0 +1,35 @@
+-- The table "Codes and whole lengths" of 01, and the whole length that it gives a code.
+use Prim.Native.Nat.{ℕ}
+use mathlib.Core.Bool.{cond}
+use mathlib.Core.List.{List, [], _∷_}
+use lib.Dec.{eqb}
+use Rattle.wire.specs.declared.codes.Row.{Row}
+use Rattle.wire.specs.declared.codes.Length.{Length}
+
+-- a row of the table: a code and the whole length of its command, in bytes
+abbrev pub row : ℕ → ℕ → Row
+row c n = record { code = c; length = n }
+
+-- 01, the table "Codes and whole lengths": its columns Code and Bytes, row by row
+unfoldable pub commands : List Row
+commands =
+    row 0x01 24 ∷
+    row 0x02 6 ∷
+    row 0x10 14 ∷
+    row 0x20 12 ∷
+    row 0x21 6 ∷
+    row 0x22 8 ∷
+    row 0x23 6 ∷
+    row 0x30 6 ∷
+    row 0x31 5 ∷
+    row 0x32 5 ∷
+    []
+
+-- the length in the first of the rows that has the code
+unfoldable pub lengthIn : List Row → ℕ → Length
+lengthIn [] c = Length.NoCode
+lengthIn (r ∷ rs) c = cond (eqb (r .code) c) (Length.Bytes (r .length)) (lengthIn rs c)
+
+-- 01, "Codes and whole lengths": the whole length of a code's command, or that the byte is no code
+unfoldable pub lengthOf : ℕ → Length
+lengthOf c = lengthIn commands c

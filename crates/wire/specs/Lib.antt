@@ -1,0 +1,5 @@
+pub mod Bytes
+pub mod Codes
+pub mod Form
+pub mod Numbers
+pub mod Split

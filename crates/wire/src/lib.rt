@@ -1,0 +1,29 @@
+// Commands as bytes, as 01 lays them out: the code table, refusals 1 to 4, the operand part, the next command of a
+// stream, numbers high byte first, and equal and copied bytes.
+//
+// No public function has a `requires`: each is defined at every input.
+mod bytes;
+mod codes;
+mod form;
+mod numbers;
+mod split;
+
+pub use bytes::copy_whole;
+pub use bytes::same;
+pub use codes::COMMANDS;
+pub use codes::Length;
+pub use codes::Row;
+pub use codes::length_of;
+pub use form::Form;
+pub use form::REPORT_LENGTH;
+pub use form::form_of;
+pub use form::operands;
+pub use numbers::be16;
+pub use numbers::be32;
+pub use numbers::byte_at;
+pub use numbers::high;
+pub use numbers::low;
+pub use numbers::signed8;
+pub use numbers::signed16;
+pub use split::Next;
+pub use split::next_command;
