@@ -54,7 +54,8 @@ IsNear (fin s m e) parts whole =
     × (16384 * (m * up e * whole) ≤ 16384 * (parts * down e) + down e * whole)
     × (16384 * (parts * down e) ≤ 16384 * (m * up e * whole) + down e * whole)
 
--- "within 1/16,384 kPa of the exact fraction limited likewise", for every reading and every P_FULL
+-- "within 1/16,384 kPa of the exact fraction limited likewise", for every reading and every P_FULL of 01; it holds of the
+-- conversion below −50 too, where P_INT is P_REF instead
 abbrev pub CylinderIsNear : Type 0
 CylinderIsNear =
     (full : ℕ) (external : ℤ) → 150 ≤ full → full ≤ 600 → SixteenBits external
