@@ -31,7 +31,7 @@ Each P (x ∷ xs) = P x × Each P xs
 
 -- ---- the reference's figure
 
--- "P_REF stays between −0.5 and 551.5"
+-- "P_REF stays between −0.5 and 551.5": −1 and 1,103 half kPa
 abbrev pub ReferenceStaysInRange : Type 0
 ReferenceStaysInRange =
     (feed : Feed) (full : ℕ) (xs : List ℤ) (reference : Float) (reports : ℕ)
