@@ -1,18 +1,18 @@
 -- Laws of `lib.Ieee` over either format. `HasValue x s a c` says that x is the number a / c with the sign s.
 -- What an operation or a comparison gives for operands known by their values, how far a rounded fraction lies from the exact one, and halves.
 use mathlib.Core.Path.{_≡_, refl, sym, ap, ap₂, _∙_, subst}
-use mathlib.Core.Bool.{Bool, true, false, not, _&&_, _||_, cond, true≢false}
+use mathlib.Core.Bool.{Bool, true, false, not, _&&_, cond}
 use Prim.Native.Nat.{ℕ, suc, _+_, _-_, _*_, _/_, _%_, _^_, _≤_, _<_, compare, Ordering, Ordering·lt, Ordering·eq, Ordering·gt}
 use native.Mathlib.Nat.{le-trans, le-of-eq, lt-of-lt-of-le, not-le-of-lt, mul-one, mul-comm, mul-assoc, mul-sub, mul-pos, pow-succ'}
 use native.Mathlib.Nat.{mod-lt, div-add-mod', div-lt-iff-lt-mul}
 use native.Mathlib.Nat.{mul-le-mul-left, mul-le-mul-right, mul-lt-mul-of-pos-right, le-of-mul-le-mul-right, lt-of-mul-lt-mul-right, eq-of-mul-eq-mul-right}
 use native.Mathlib.Decide.{decLt}
 use native.Mathlib.Omega.{arith}
-use borrow.Author.Tests.{lt-ltb, le-ltb, eq-eqb, ne-eqb}
-use lib.Dec.{T, isLe, isEq, ltb, eqb, leb→le, nleb→lt, eqb→eq, lit≤, lit<}
+use borrow.Author.Tests.{lt-ltb, le-ltb, ne-eqb}
+use lib.Dec.{T, isLe, isEq, ltb, leb→le, nleb→lt, eqb→eq, lit≤, lit<}
 use lib.Pow.{pow-pos, pow-mono, shl-lt}
 use lib.IntN.{pos, negsuc}
-use lib.Ieee.{Float, fin, Format, binary32, binary64, prec, emax, low, unlike, up, down, below, nearest, round, sum, neg, add, sub, mul, div, lt, le, ofInt}
+use lib.Ieee.{Float, fin, Format, binary32, binary64, prec, emax, low, unlike, up, down, below, nearest, round, sum, neg, add, sub, mul, div, lt, ofInt}
 use lib.Ieee.Digits.{size-le}
 use lib.Ieee.Fits.{down-pos, round-is}
 use lib.Ieee.Exact.{HasValue, units-val, round-exact}
@@ -80,24 +80,6 @@ lt-whole f x s n d k D K v = rw (lt-at x (ofInt f (pos k)) s false n d k 1 D (li
 -- a whole number below a float
 pub whole-lt : (f : Format) (x : Float) (s : Bool) (n d k : ℕ) → 0 < d → k ≤ 2 ^ prec f → HasValue x s n d → lt (ofInt f (pos k)) x ≡ below false (k * d) s n
 whole-lt f x s n d k D K v = rw (lt-at (ofInt f (pos k)) x false s k 1 n d (lit< tt) D (whole-value f k K) v, mul-one n)
-
--- `le` as it tests whole numbers
-le-tests : (a b : ℕ) → (ltb a b || (eqb a b && true)) ≡ not (ltb b a)
-le-tests a b = elim (decLt b a) [
-  | yes h ↦ simp (lt-ltb b a h, le-ltb a b (omega arith), ne-eqb a b (omega arith))
-  | no h ↦ elim (decLt a b) [
-    | yes k ↦ simp (le-ltb b a (omega arith), lt-ltb a b k)
-    | no k ↦ simp (le-ltb b a (omega arith), le-ltb a b (omega arith), eq-eqb a b (omega arith))
-  ]
-]
-
--- two floats that are not negative: x ≤ y where y is not below x
-pub le-at : (x y : Float) (a c b d : ℕ) → 0 < c → 0 < d → HasValue x false a c → HasValue y false b d → le x y ≡ not (ltb (b * c) (a * d))
-unfolding le
-le-at (fin true m e) y a c b d C D h k = absurd (true≢false (h .0))
-le-at (fin false m e) (fin true n g) a c b d C D h k = absurd (true≢false (k .0))
-le-at (fin false m e) (fin false n g) a c b d C D h k =
-    le-tests (m * up e * down g) (n * up g * down e) ∙ ap not (lt-at (fin false n g) (fin false m e) false false b d a c D C k h)
 
 -- ---- the operations: each rounds the exact result of the values
 
