@@ -1,5 +1,5 @@
 #!/usr/bin/env python3
-"""The brake feedback of document 01 once more, written from 01 alone and in exact fractions, to compare the proved one with.
+"""The brake feedback of document 01 once more, written from 01 and in exact fractions, to compare the proved one with.
 
     pressure.py vectors          writes recorded readings to standard output
     pressure.py < readings       writes the lines that crates/pressure_run has to print for them
@@ -106,6 +106,11 @@ def vectors():
         for given in (None, 1000):
             for external in (-32768, -102, -101, -100, -99, -1, 0, 1, 799, 800, 1099, 1100, 1101, 1909, 1910, 1911, 1912, 32767):
                 out.append(record(0, feed, 300, external) if given is None else record(2, feed, 300, external, given))
+    # 20 from a P0 of 400 goes on settling, and 20.5 waits; 550 is 20.5 from 529.5 and is saved anew, and 20 from 530, where it
+    # is the 30th further report
+    out += [record(0, 0, 300, 800), record(1, 0, 300, 760), record(1, 0, 300, 759)]
+    out += [record(0, 0, 300, 1059)] + [record(1, 0, 300, 1059)] * 29 + [record(1, 0, 300, 1100)] * 31
+    out += [record(0, 0, 300, 1060)] + [record(1, 0, 300, 1060)] * 29 + [record(1, 0, 300, 1100)] * 2
     # P_FULL from 150 to 600
     out += [record(0, 1, full, rng.randrange(0, 1911)) for full in range(150, 601, 3)]
     # runs: settling that holds, that is thrown back at 20 and a half kPa, and that a fault throws back; then changes

@@ -1,15 +1,16 @@
--- What a saved pressure has and every change of the reference keeps, the reference has after any number of reports.
+-- What 0 and every converted pressure have and every change of the reference keeps, the reference has after any number of reports.
 use mathlib.Core.Path.{_≡_, refl, sym, subst}
 use mathlib.Core.List.{List, [], _∷_}
 use Prim.Native.Nat.{ℕ, _+_, _*_}
 use native.Mathlib.Omega.{arith}
-use mathlib.Core.Bool.{Bool, true, false, cond}
+use mathlib.Core.Bool.{Bool, true, false, _&&_, cond}
 use borrow.Author.Tests.{le-ltb}
 use lib.Dec.{ltb}
-use lib.IntN.{ℤ}
-use lib.Ieee.{Float, nan, inf, fin, up, down, lt}
+use lib.IntN.{ℤ, pos}
+use lib.Ieee.{Float, nan, inf, fin, binary32, up, down, add, sub, lt, le}
+use Rattle.pressure.specs.Convert.{kPa, halvedOf, isLow, convertedOf, pressureOf}
 use Rattle.pressure.specs.Reference.{isSinking, changedReference}
-use Rattle.pressure.specs.Phases.{isNormal, isFar, waitedOf, settledOf, setOf}
+use Rattle.pressure.specs.Phases.{referenceOf, isNormal, isFar, waitedOf, settledOf, setOf}
 use Rattle.pressure.specs.Report.{pressureAt, phaseAfter}
 use Rattle.pressure.specs.Claims.{phaseAfterAll, Each}
 use Rattle.pressure.proofs.Settling.{after-waiting, after-settling, after-set}
@@ -26,7 +27,7 @@ lt-self (fin true m e) = le-ltb (m * up e * down e) (m * up e * down e) (omega a
 lt-self (fin false m e) = le-ltb (m * up e * down e) (m * up e * down e) (omega arith)
 
 -- with P_INT at P_REF nothing changes
-pub changed-level : (r : Float) → changedReference (record { pressure = r; reference = r }) ≡ r
+changed-level : (r : Float) → changedReference (record { pressure = r; reference = r }) ≡ r
 unfolding changedReference isSinking
 changed-level r = rw (lt-self r)
 
@@ -36,24 +37,53 @@ Carries R Waiting = Unit {0}
 Carries R (Settling saved n) = R saved
 Carries R (Set r n) = R r
 
-abbrev changedBy : Feed → ℕ → Float → ℕ → ℤ → Float
-changedBy feed full r n x = changedReference (record { pressure = pressureAt (Set r n) feed full x; reference = r })
-
+-- P is what a converted P_INT has, R what a reference has: 0 and every converted P_INT may be a reference, and a change keeps R
 module _
     (feed : Feed)
     (full : ℕ)
     (Reads : ℤ → Type 0)
-    (R : Float → Type 0)
-    (saves : (x : ℤ) → Reads x → isNormal (pressureAt Waiting feed full x) ≡ true → R (pressureAt Waiting feed full x))
-    (changes : (r : Float) (n : ℕ) (x : ℤ) → Reads x → R r → R (changedBy feed full r n x))
+    (P R : Float → Type 0)
+    (converted : (x : ℤ) → Reads x → P (convertedOf feed full (halvedOf x)))
+    (zero : R (kPa 0))
+    (serves : (p : Float) → P p → R p)
+    (raised : (r p : Float) → R r → P p → lt r p ≡ true → R (add binary32 r (halvedOf (pos 3))))
+    (lowered : (r p : Float) → R r → P p → lt p r ≡ true → R (sub binary32 r (halvedOf (pos 1))))
   where
+    saves : (x : ℤ) → Reads x → R (pressureAt Waiting feed full x)
+    unfolding pressureAt pressureOf referenceOf
+    saves x ok = go (isLow (halvedOf x))
+      where
+        go : (b : Bool) → R (cond b (kPa 0) (convertedOf feed full (halvedOf x)))
+        go true = zero
+        go false = serves (convertedOf feed full (halvedOf x)) (converted x ok)
+
+    changed : (r p : Float) → R r → P p → R (changedReference (record { pressure = p; reference = r }))
+    unfolding changedReference isSinking
+    changed r p h k = go (lt r p) (lt p r) (le r (add binary32 p (kPa 30))) refl refl
+      where
+        go : (a b d : Bool) → lt r p ≡ a → lt p r ≡ b
+            → R (cond a (add binary32 r (halvedOf (pos 3))) (cond (b && d) (sub binary32 r (halvedOf (pos 1))) r))
+        go true b d t u = raised r p h k t
+        go false true true t u = lowered r p h k u
+        go false true false t u = h
+        go false false d t u = h
+
+    changes : (r : Float) (n : ℕ) (x : ℤ) → Reads x → R r
+        → R (changedReference (record { pressure = pressureAt (Set r n) feed full x; reference = r }))
+    unfolding pressureAt pressureOf referenceOf
+    changes r n x ok h = go (isLow (halvedOf x))
+      where
+        go : (b : Bool) → R (changedReference (record { pressure = cond b r (convertedOf feed full (halvedOf x)); reference = r }))
+        go true = subst R (sym (changed-level r)) h
+        go false = changed r (convertedOf feed full (halvedOf x)) h (converted x ok)
+
     waited : (x : ℤ) → Reads x → Carries R (waitedOf (pressureAt Waiting feed full x))
     unfolding waitedOf
-    waited x ok = go (isNormal (pressureAt Waiting feed full x)) refl
+    waited x ok = go (isNormal (pressureAt Waiting feed full x))
       where
-        go : (b : Bool) → isNormal (pressureAt Waiting feed full x) ≡ b → Carries R (cond b (Settling (pressureAt Waiting feed full x) 0) Waiting)
-        go true e = saves x ok e
-        go false e = tt
+        go : (b : Bool) → Carries R (cond b (Settling (pressureAt Waiting feed full x) 0) Waiting)
+        go true = saves x ok
+        go false = tt
 
     settled : (saved : Float) (n : ℕ) → R saved → Carries R (settledOf saved n)
     unfolding settledOf
@@ -67,7 +97,8 @@ module _
     unfolding setOf
     set r n x ok h = go (ltb (n + 1) 10)
       where
-        go : (b : Bool) → Carries R (cond b (Set r (n + 1)) (Set (changedBy feed full r n x) 0))
+        go : (b : Bool)
+            → Carries R (cond b (Set r (n + 1)) (Set (changedReference (record { pressure = pressureAt (Set r n) feed full x; reference = r })) 0))
         go true = h
         go false = changes r n x ok h
 

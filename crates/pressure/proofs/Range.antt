@@ -13,17 +13,13 @@ use lib.Ieee.{Float, nan, inf, fin, Format, binary32, prec, emax, low, up, down,
 use lib.Ieee.Exact.{HasValue}
 use lib.Ieee.Fits.{down-pos, round-is}
 use lib.Ieee.Order.{kept, drop, round-mono}
-use Rattle.pressure.specs.Convert.{kPa, halvedOf, isLow, countedOf, limitedOf, cylinderOf, convertedOf, pressureOf}
-use Rattle.pressure.specs.Reference.{isSinking, changedReference}
-use Rattle.pressure.specs.Phases.{referenceOf}
-use Rattle.pressure.specs.Report.{pressureAt}
+use Rattle.pressure.specs.Convert.{kPa, halvedOf, countedOf, limitedOf, cylinderOf, convertedOf}
 use Rattle.pressure.specs.Claims.{Each, ReferenceStaysInRange}
 use Rattle.pressure.proofs.Rounding.{add-at, sub-at, sum-plus, sum-above, sum-below}
 use Rattle.pressure.proofs.Halves.{halving-is-exact}
-use Rattle.pressure.proofs.Keeping.{changed-level, kept as always}
+use Rattle.pressure.proofs.Keeping.{kept as always}
 use Rattle.pressure.specs.declared.Feed.{Feed}
 use Rattle.pressure.specs.declared.Feed.the-variants.{Pipe, Cylinder}
-use Rattle.pressure.specs.declared.Phase.the-variants.{Waiting, Set}
 
 -- a number from −0.5 to 551.5
 abbrev InRange : Float → Type 0
@@ -145,6 +141,7 @@ limited-in-range : (p : Float) → IsLimited p → InRange p
 limited-in-range (fin false m e) h = omega arith
 
 -- ---- the change
+
 -- what a fin is, as a fraction
 own-value : (s : Bool) (m : ℕ) (e : ℤ) → HasValue (fin s m e) s (m * up e) (down e)
 own-value s m e = (refl, refl)
@@ -182,34 +179,9 @@ lowered (fin false m e) (fin false n d) h l t =
     ])
 lowered (fin true m e) (fin false n d) h l t = absurd (false≢true t)
 
-changed-limited : (r p : Float) → InRange r → IsLimited p → InRange (changedReference (record { pressure = p; reference = r }))
-unfolding changedReference isSinking
-changed-limited r p h l = go (lt r p) (lt p r) (le r (add binary32 p (kPa 30))) refl refl
-  where
-    go : (a b d : Bool) → lt r p ≡ a → lt p r ≡ b
-        → InRange (cond a (add binary32 r (halvedOf (pos 3))) (cond (b && d) (sub binary32 r (halvedOf (pos 1))) r))
-    go true b d t u = raised r p h l t
-    go false true true t u = lowered r p h l u
-    go false true false t u = h
-    go false false d t u = h
-
--- ---- any number of reports
-saves : (feed : Feed) (full : ℕ) (x : ℤ) → InRange (pressureAt Waiting feed full x)
-unfolding pressureAt pressureOf referenceOf
-saves feed full x = go (isLow (halvedOf x))
-  where
-    go : (b : Bool) → InRange (cond b (kPa 0) (convertedOf feed full (halvedOf x)))
-    go true = unfold ofInt in lit≤ tt
-    go false = limited-in-range (convertedOf feed full (halvedOf x)) (converted-limits feed full (halvedOf x))
-
-changes : (feed : Feed) (full : ℕ) (r : Float) (n : ℕ) (x : ℤ) → InRange r
-    → InRange (changedReference (record { pressure = pressureAt (Set r n) feed full x; reference = r }))
-unfolding pressureAt pressureOf referenceOf
-changes feed full r n x h = go (isLow (halvedOf x))
-  where
-    go : (b : Bool) → InRange (changedReference (record { pressure = cond b r (convertedOf feed full (halvedOf x)); reference = r }))
-    go true = subst InRange (sym (changed-level r)) h
-    go false = changed-limited r (convertedOf feed full (halvedOf x)) h (converted-limits feed full (halvedOf x))
+none : InRange (kPa 0)
+unfolding ofInt
+none = lit≤ tt
 
 -- ---- the range, as comparisons of floats
 at-least : (r : Float) → InRange r → T (le (fin true 1 (negsuc 0)) r)
@@ -240,4 +212,5 @@ each (x ∷ xs) = (tt, each xs)
 
 pub reference-stays-in-range : ReferenceStaysInRange
 reference-stays-in-range feed full xs r n e =
-    in-half-kPa r (always feed full (λ x. Unit {0}) InRange (λ x _ _. saves feed full x) (λ r n x _. changes feed full r n x) xs r n (each xs) e)
+    in-half-kPa r
+    (always feed full (λ x. Unit {0}) IsLimited InRange (λ x _. converted-limits feed full (halvedOf x)) none limited-in-range raised lowered xs r n (each xs) e)
