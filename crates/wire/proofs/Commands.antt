@@ -16,7 +16,7 @@ use Rattle.wire.specs.Codes.{lengthOf}
 use Rattle.wire.specs.Form.{codeForm, formOf, refusalOf, reportLength}
 use Rattle.wire.specs.Numbers.{byteAt}
 use Rattle.wire.specs.Split.{codeNext, nextOf, nextRefusal}
-use Rattle.wire.proofs.Lists.{never, cond-first, cond-second}
+use Rattle.laws.proofs.Lists.{never, cond-first, cond-second}
 use Rattle.wire.proofs.Table.{lengths-within}
 
 codeForm-whole : (l : Length) (n : ℕ) → codeForm l n ≡ Form.Whole → l ≡ Length.Bytes n

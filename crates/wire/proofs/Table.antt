@@ -11,7 +11,7 @@ use borrow.Author.Tests.{eqb-true, leb-true, eq-eqb, ne-eqb}
 use Rattle.wire.specs.declared.codes.Row.{Row}
 use Rattle.wire.specs.declared.codes.Length.{Length}
 use Rattle.wire.specs.Codes.{row, commands, lengthIn, lengthOf}
-use Rattle.wire.proofs.Lists.{_∈_, never, distinct-at, every-holds, cond-first}
+use Rattle.laws.proofs.Lists.{_∈_, never, distinct-at, every-holds, cond-first}
 
 -- looking a code up at a place of the table
 module _ (rows : List Row) (i c : ℕ) (h : i < length rows) where

@@ -8,7 +8,7 @@ use borrow.Author.Tests.{eq-eqb, ne-eqb}
 use denote.Ref.{now}
 use lib.ListN.{take, drop, length, length-set}
 use Rattle.wire.specs.Bytes.{copied}
-use Rattle.wire.proofs.Lists.{copy-step, copy-past}
+use Rattle.laws.proofs.Lists.{copy-step, copy-past}
 use Rattle.wire.proofs.bytes.copy_whole.Statement.{statement}
 use Rattle.wire.proofs.bytes.copy_whole.Tie as tie
 

@@ -6,7 +6,7 @@ use native.Mathlib.Omega.{arith}
 use denote.Ref.{now}
 use lib.ListN.{drop, length}
 use Rattle.wire.specs.Bytes.{sameBytes}
-use Rattle.wire.proofs.Lists.{not-true-false}
+use Rattle.laws.proofs.Lists.{not-true-false}
 use Rattle.wire.proofs.Equal.{same-equal, same-on, same-off, same-past}
 use Rattle.wire.proofs.bytes.same.Statement.{statement}
 use Rattle.wire.proofs.bytes.same.Tie as tie

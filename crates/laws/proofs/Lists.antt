@@ -1,13 +1,13 @@
 -- Laws of tests and lists over any element type. Assumes nothing.
 use Prim.Native.Nat.{ℕ, zero, suc, _+_, _<_, _≤_}
-use mathlib.Core.Path.{_≡_, refl}
+use mathlib.Core.Path.{_≡_, refl, sym, ap}
 use mathlib.Core.Bool.{Bool, true, false, cond, not, false≢true}
-use mathlib.Core.List.{List, [], _∷_, _++_, append-nil, List·Memᴰ, List·Memᴰ·head, List·Memᴰ·tail, List·Memᴰ·not-nil}
-use native.Mathlib.Nat.{le-of-lt, le-of-suc-le-suc, not-suc-le-zero}
+use mathlib.Core.List.{List, [], _∷_, _++_, map, zipWith, append-nil, List·Memᴰ, List·Memᴰ·head, List·Memᴰ·tail, List·Memᴰ·not-nil}
+use native.Mathlib.Nat.{le-of-lt, le-of-suc-le-suc, not-suc-le-zero, suc-inj, suc-ne-zero}
 use native.Mathlib.Omega.{arith}
 use native.Mathlib.Numerals.{add-one}
 use lib.Dec.{eqb}
-use lib.ListN.{length, take, drop, set, getD, drop-of-length-le}
+use lib.ListN.{length, take, drop, set, getD, length-map, drop-of-length-le}
 use lib.Seq.{take-all, take-suc, drop-cons, set-at, append-snoc, length-take-le}
 use borrow.Author.Tests.{eqb-false, not-true}
 
@@ -57,6 +57,45 @@ module _ {A : Type 0} where
 
   pub copy-past : (source target : List A) (i : ℕ) → length source ≤ i → length target ≤ i → take i source ++ drop i target ≡ source
   copy-past source target i h k = rw (take-all i source h, drop-of-length-le target k, append-nil)
+
+-- the element of a changed list, and of two lists joined element by element
+pub getD-map : {A B : Type 0} (f : A → B) (l : List A) (i : ℕ) (d : A) → getD (map f l) i (f d) ≡ f (getD l i d)
+getD-map f [] i d = refl
+getD-map f (x ∷ xs) zero d = refl
+getD-map f (x ∷ xs) (suc i) d = getD-map f xs i d
+
+pub length-zip : {A B C : Type 0} (f : A → B → C) (xs : List A) (ys : List B) → length xs ≡ length ys → length (zipWith f xs ys) ≡ length xs
+unfolding zipWith
+length-zip f [] ys e = refl
+length-zip f (x ∷ xs) [] e = sym e
+length-zip f (x ∷ xs) (y ∷ ys) e = ap suc (length-zip f xs ys (suc-inj e))
+
+pub getD-zip : {A B C : Type 0} (f : A → B → C) (xs : List A) (ys : List B) (i : ℕ) (a : A) (b : B) → length xs ≡ length ys
+    → getD (zipWith f xs ys) i (f a b) ≡ f (getD xs i a) (getD ys i b)
+unfolding zipWith
+getD-zip f [] [] i a b e = refl
+getD-zip f [] (y ∷ ys) i a b e = absurd (suc-ne-zero _ (sym e))
+getD-zip f (x ∷ xs) [] i a b e = absurd (suc-ne-zero _ e)
+getD-zip f (x ∷ xs) (y ∷ ys) zero a b e = refl
+getD-zip f (x ∷ xs) (y ∷ ys) (suc i) a b e = getD-zip f xs ys i a b (suc-inj e)
+
+-- one element more of a changed list over another, and of two lists joined element by element
+pub map-step : {A B : Type 0} (f : A → B) (l : List A) (t : List B) (i : ℕ) (d : A) {x : B}
+    → x ≡ f (getD l i d) → i < length l → i < length t
+    → set (take i (map f l) ++ drop i t) i x ≡ take (i + 1) (map f l) ++ drop (i + 1) t
+map-step f l t i d e h k =
+    rw (e, sym (getD-map f l i d)) (copy-step (map f l) t i (f d) (rw (length-map l f) h) k)
+
+pub zip-step : {A B C : Type 0} (f : A → B → C) (xs : List A) (ys : List B) (t : List C) (i : ℕ) (a : A) (b : B) {x : C}
+    → x ≡ f (getD xs i a) (getD ys i b) → length xs ≡ length ys → i < length xs → i < length t
+    → set (take i (zipWith f xs ys) ++ drop i t) i x ≡ take (i + 1) (zipWith f xs ys) ++ drop (i + 1) t
+zip-step f xs ys t i a b e same h k =
+    rw (e, sym (getD-zip f xs ys i a b same))
+    (copy-step (zipWith f xs ys) t i (f a b) (rw (length-zip f xs ys same) h) k)
+
+-- the rest of a list from a place on, by its first element
+pub drop-step : {A : Type 0} (l : List A) (i : ℕ) (d : A) → i < length l → drop i l ≡ getD l i d ∷ drop (i + 1) l
+drop-step l i d h = rw add-one (drop-cons l i d h)
 
 -- no number stands twice
 abbrev other : ℕ → ℕ → Bool

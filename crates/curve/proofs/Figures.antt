@@ -1,0 +1,11 @@
+-- The marked figures of 01 that concern curves hold, by computation.
+use mathlib.Core.Path.{refl}
+use Rattle.curve.specs.Deceleration.{decelerationOf}
+use Rattle.curve.specs.Lead.{leadsOf}
+use Rattle.curve.specs.Boundary.{targetOf, isAbove, leftSide, rightSide, line, isReached, isReachedF}
+use Rattle.curve.specs.Intervals.{intervalOf}
+use Rattle.curve.specs.Figures.{curveFigures, CurveFiguresHold}
+
+pub curve-figures-hold : CurveFiguresHold
+unfolding curveFigures leadsOf intervalOf isReached isReachedF isAbove targetOf decelerationOf leftSide rightSide line
+curve-figures-hold = refl

@@ -1,0 +1,6 @@
+pub mod Figures
+pub mod Halving
+pub mod Line
+pub mod Loops
+pub mod Stricter
+pub mod Widths

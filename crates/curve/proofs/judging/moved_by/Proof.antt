@@ -1,0 +1,13 @@
+-- `curve::judging::moved_by` meets its contract.
+use borrow.Author.Needs.{needs}
+use Rattle.curve.proofs.judging.moved_by.Statement.{statement}
+use Rattle.curve.proofs.judging.moved_by.Tie as tie
+
+less-requires : tie.Need-less-requires
+less-requires c κs = search needs
+
+returns : tie.Need-returns
+returns c = rw (c .less .ensures)
+
+pub moved-by-spec : {M : Type 1} → statement M
+moved-by-spec = tie.close (tie.spec less-requires returns)

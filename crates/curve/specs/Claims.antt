@@ -1,0 +1,117 @@
+-- What holds of every curve, for any lead: statements, proved in proofs/.
+use mathlib.Core.Path.{_≡_}
+use Prim.Native.Nat.{ℕ, _*_, _≤_, _<_, min}
+use mathlib.Core.Bool.{true, false}
+use Rattle.curve.specs.Boundary.{isReached, isReachedF, isReachedAtKmh}
+use Rattle.curve.specs.Intervals.{intervalOf, rankOf}
+use Rattle.curve.specs.Permitted.{permittedOf}
+use Rattle.curve.specs.Judging.{brakesAt, judgedOf}
+use Rattle.curve.specs.declared.Curve.{Curve}
+use Rattle.curve.specs.declared.Leads.{Leads}
+use Rattle.curve.specs.declared.Braking.{Braking}
+use Rattle.curve.specs.declared.Interval.{Interval}
+use Rattle.curve.specs.declared.Interval.the-variants.{A}
+
+-- ---- one rule
+
+-- the rule at k km/h is the rule at v where 9×v = 250×k
+abbrev pub OneRule : Type 0
+OneRule = (curve : Curve) (level v k T : ℕ) → 9 * v ≡ 250 * k → isReachedAtKmh curve level k T ≡ isReached curve level v T
+
+-- with no margin F is E: the same line with lead 0
+abbrev pub FWithoutMarginIsE : Type 0
+FWithoutMarginIsE = (curve : Curve) (level v : ℕ) → isReachedF curve level 0 v ≡ isReached curve level v 0
+
+-- ---- stricter figures
+
+-- the second curve has a distance and a target or release speed no higher
+pub record Stricter (curve curve′ : Curve) : Type 0 where
+  pub kind : curve′ .kind ≡ curve .kind
+  pub gradient : curve′ .gradient ≡ curve .gradient
+  pub distance : curve′ .distance ≤ curve .distance
+  pub speed : curve′ .speed ≤ curve .speed
+
+-- no lead of the second is shorter
+pub record LongerLeads (leads leads′ : Leads) : Type 0 where
+  pub d : leads .d ≤ leads′ .d
+  pub c : leads .c ≤ leads′ .c
+  pub permitted : leads .permitted ≤ leads′ .permitted
+  pub b : leads .b ≤ leads′ .b
+  pub bf : leads .bf ≤ leads′ .bf
+
+-- the second train decelerates no better, and has no lead shorter and no higher F margin
+pub record WeakerBraking (braking braking′ : Braking) : Type 0 where
+  pub level : braking′ .level ≤ braking .level
+  pub leads : LongerLeads (braking .leads) (braking′ .leads)
+  pub margin : braking′ .margin ≤ braking .margin
+
+-- a boundary reached stays reached with all figures stricter, for any lead
+abbrev pub StaysReached : Type 0
+StaysReached =
+    (curve curve′ : Curve) (level level′ v v′ T T′ : ℕ)
+    → Stricter curve curve′ → level′ ≤ level → v ≤ v′ → T ≤ T′
+    → isReached curve level v T ≡ true → isReached curve′ level′ v′ T′ ≡ true
+
+abbrev pub FStaysReached : Type 0
+FStaysReached =
+    (curve curve′ : Curve) (level level′ margin margin′ v v′ : ℕ)
+    → Stricter curve curve′ → level′ ≤ level → margin′ ≤ margin → v ≤ v′
+    → isReachedF curve level margin v ≡ true → isReachedF curve′ level′ margin′ v′ ≡ true
+
+abbrev pub StaysReachedAtKmh : Type 0
+StaysReachedAtKmh =
+    (curve curve′ : Curve) (level level′ k k′ T T′ : ℕ)
+    → Stricter curve curve′ → level′ ≤ level → k ≤ k′ → T ≤ T′
+    → isReachedAtKmh curve level k T ≡ true → isReachedAtKmh curve′ level′ k′ T′ ≡ true
+
+-- so a computed interval is not earlier,
+abbrev pub IntervalIsNotEarlier : Type 0
+IntervalIsNotEarlier =
+    (curve curve′ : Curve) (braking braking′ : Braking) (v v′ : ℕ)
+    → Stricter curve curve′ → WeakerBraking braking braking′ → v ≤ v′
+    → rankOf (intervalOf curve braking v) ≤ rankOf (intervalOf curve′ braking′ v′)
+
+-- a permitted speed is not higher,
+abbrev pub PermittedIsNotHigher : Type 0
+PermittedIsNotHigher =
+    (curve curve′ : Curve) (level level′ T T′ : ℕ)
+    → Stricter curve curve′ → level′ ≤ level → T ≤ T′
+    → permittedOf curve′ level′ T′ ≤ permittedOf curve level T
+
+-- and a curve that brakes still does
+abbrev pub StillBrakes : Type 0
+StillBrakes =
+    (curve curve′ : Curve) (braking braking′ : Braking) (v v′ : ℕ)
+    → Stricter curve curve′ → WeakerBraking braking braking′ → v ≤ v′
+    → judgedOf braking v curve .brakes ≡ true → judgedOf braking′ v′ curve′ .brakes ≡ true
+
+-- ---- one curve
+
+-- a boundary with a longer lead is reached whenever one with a shorter is
+abbrev pub LongerLeadIsReached : Type 0
+LongerLeadIsReached = (curve : Curve) (level v T T′ : ℕ) → T ≤ T′ → isReached curve level v T ≡ true → isReached curve level v T′ ≡ true
+
+-- where F is reached, so is E
+abbrev pub FImpliesE : Type 0
+FImpliesE = (curve : Curve) (level margin v : ℕ) → isReachedF curve level margin v ≡ true → isReached curve level v 0 ≡ true
+
+-- "Braking at a curve with v at or under its target because T is long" does not happen, nor at or under its release speed: there
+-- every curve is in A, and brakes in no interval
+abbrev pub NoBrakingAtFloor : Type 0
+NoBrakingAtFloor =
+    (curve : Curve) (braking : Braking) (v : ℕ)
+    → 9 * v ≤ 250 * curve .speed
+    → (intervalOf curve braking v ≡ A)
+    × ((interval : Interval) → brakesAt curve interval v ≡ false)
+
+-- the permitted speed is the largest up to 300: it and all below are not reached, and all above are
+abbrev pub PermittedIsLargest : Type 0
+PermittedIsLargest =
+    (curve : Curve) (level T : ℕ)
+    → (permittedOf curve level T ≤ 300)
+    × ((k : ℕ) → k ≤ permittedOf curve level T → isReachedAtKmh curve level k T ≡ false)
+    × ((k : ℕ) → permittedOf curve level T < k → k ≤ 300 → isReachedAtKmh curve level k T ≡ true)
+
+-- it is not below the target or the release speed, up to 300
+abbrev pub PermittedIsNotBelowFloor : Type 0
+PermittedIsNotBelowFloor = (curve : Curve) (level T : ℕ) → min 300 (curve .speed) ≤ permittedOf curve level T

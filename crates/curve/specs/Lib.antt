@@ -1,0 +1,9 @@
+pub mod Deceleration
+pub mod Lead
+pub mod Boundary
+pub mod Intervals
+pub mod Permitted
+pub mod Judging
+pub mod Places
+pub mod Claims
+pub mod Figures

@@ -1,0 +1,40 @@
+-- The places that hold curves (01, "Answers", refusal 13: 16 of them), each as it stands in its array.
+use Prim.Native.Nat.{ℕ, min}
+use mathlib.Core.Bool.{Bool, false, cond, _&&_, _||_}
+use mathlib.Core.List.{List, [], _∷_, map, zipWith}
+use lib.Dec.{leb}
+use Rattle.curve.specs.Intervals.{rankOf}
+use Rattle.curve.specs.Judging.{movedBy, judgedOf, notedAt}
+use Rattle.curve.specs.declared.Curve.{Curve}
+use Rattle.curve.specs.declared.Braking.{Braking}
+use Rattle.curve.specs.declared.Interval.{Interval}
+use Rattle.curve.specs.declared.Judged.{Judged}
+
+-- "d falls by the ground moved", for every curve
+abbrev pub movedAll : ℕ → List Curve → List Curve
+movedAll moved curves = map (λ curve. movedBy curve moved) curves
+
+-- what every curve says at v
+abbrev pub judgedAll : Braking → ℕ → List Curve → List Judged
+judgedAll braking v curves = map (judgedOf braking v) curves
+
+-- every curve's past in B, noted in the interval that it was judged to be in
+abbrev pub notedAll : List Curve → List Judged → List Curve
+notedAll curves judged = zipWith (λ curve j. notedAt curve (j .interval)) curves judged
+
+-- the permitted speed at a place; one that holds no curve permits 300
+abbrev pub permittedHere : Judged → ℕ
+permittedHere j = cond (j .held) (j .permitted) 300
+
+-- "the least of VMAX and the curves'": the curves' part, 300 where there is none
+unfoldable pub leastPermitted : List Judged → ℕ
+leastPermitted [] = 300
+leastPermitted (j ∷ js) = min (permittedHere j) (leastPermitted js)
+
+-- a curve brakes, in this interval or a later one
+abbrev pub brakesFrom : Interval → Judged → Bool
+brakesFrom interval j = j .held && j .brakes && leb (rankOf interval) (rankOf (j .interval))
+
+unfoldable pub anyBrakes : Interval → List Judged → Bool
+anyBrakes interval [] = false
+anyBrakes interval (j ∷ js) = brakesFrom interval j || anyBrakes interval js

@@ -1,0 +1,86 @@
+// The computed interval and the shown one.
+ghost use mathlib.Core.Path.{_≡_};
+ghost use Rattle.curve.specs.Intervals.{intervalOf, rankOf, shownOf, computedNumber, numberOf};
+use crate::Braking;
+use crate::Curve;
+use crate::Interval;
+use crate::Shown;
+use crate::boundary::f_reached;
+use crate::boundary::reached;
+
+// The last reached boundary's interval.
+pub fn interval_of(curve: Curve, braking: Braking, v: u16) -> Interval
+    ensures { λ r. ⌜ r ≡ intervalOf curve braking v ⌝ }
+{
+    let level = braking.level;
+    let leads = braking.leads;
+    if f_reached(curve, level, braking.margin, v) {
+        return Interval::F;
+    }
+    if reached(curve, level, v, 0) {
+        return Interval::E;
+    }
+    if reached(curve, level, v, leads.d) {
+        return Interval::D;
+    }
+    if reached(curve, level, v, leads.c) {
+        return Interval::C;
+    }
+    if reached(curve, level, v, leads.b) {
+        return Interval::B;
+    }
+    if reached(curve, level, v, leads.bf) {
+        return Interval::Bf;
+    }
+    Interval::A
+}
+
+// The place of an interval in the order A, Bf, B, C, D, E, F, from 0.
+pub fn rank_of(interval: Interval) -> u8
+    ensures { λ r. ⌜ r ≡ rankOf interval ⌝ }
+{
+    match interval {
+        Interval::A => 0,
+        Interval::Bf => 1,
+        Interval::B => 2,
+        Interval::C => 3,
+        Interval::D => 4,
+        Interval::E => 5,
+        Interval::F => 6,
+    }
+}
+
+// How an interval is shown, of a curve once in B or later (`past`) or not.
+pub fn shown_of(past: bool, interval: Interval) -> Shown
+    ensures { λ r. ⌜ r ≡ shownOf past interval ⌝ }
+{
+    if past & (rank_of(interval) < rank_of(Interval::B)) {
+        return Shown::Ab;
+    }
+    Shown::Computed(interval)
+}
+
+// The report's number for a computed interval.
+fn computed_number(interval: Interval) -> u8
+    ensures { λ r. ⌜ r ≡ computedNumber interval ⌝ }
+{
+    match interval {
+        Interval::A => 1,
+        Interval::Bf => 3,
+        Interval::B => 4,
+        Interval::C => 5,
+        Interval::D => 6,
+        Interval::E => 7,
+        Interval::F => 8,
+    }
+}
+
+// The report's number for a shown interval.
+pub fn number_of(shown: Shown) -> u8
+    ensures { λ r. ⌜ r ≡ numberOf shown ⌝ }
+{
+    match shown {
+        Shown::Ab => 2,
+        Shown::Computed(interval) => computed_number(interval),
+    }
+}

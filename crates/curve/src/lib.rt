@@ -1,0 +1,110 @@
+// The curves of 01, "Curves": boundaries, intervals, permitted speeds, and the places that hold them.
+//
+// Speeds v are in cm/s, limits and targets in whole km/h, distances in cm, times in tenths of a
+// second, decelerations in mm/s². Every function answers at every value of its parameters.
+mod boundary;
+mod deceleration;
+mod intervals;
+mod judging;
+mod lead;
+mod permitted;
+mod places;
+
+pub use boundary::f_reached;
+pub use boundary::reached;
+pub use boundary::reached_at_kmh;
+pub use deceleration::deceleration_of;
+pub use deceleration::level_of;
+pub use intervals::interval_of;
+pub use intervals::number_of;
+pub use intervals::rank_of;
+pub use intervals::shown_of;
+pub use judging::brakes_at;
+pub use judging::judge;
+pub use judging::moved_by;
+pub use judging::noted;
+pub use lead::leads_of;
+pub use permitted::permitted_of;
+pub use places::any_brakes;
+pub use places::judge_all;
+pub use places::least_permitted;
+pub use places::move_all;
+pub use places::note_all;
+
+// The kinds of a curve: 0 speed target, 1 Expect Stop.
+pub enum Kind {
+    SpeedTarget,
+    ExpectStop,
+}
+
+pub enum Direction {
+    Up,
+    Down,
+}
+
+// A gradient in ‰.
+pub struct Gradient {
+    pub direction: Direction,
+    pub size: u8,
+}
+
+// A curve, or a place that holds none. `distance` is the remaining d, `speed` the target or the
+// release speed, `past` whether it was once in B or later.
+pub struct Curve {
+    pub held: bool,
+    pub id: u8,
+    pub kind: Kind,
+    pub distance: u32,
+    pub speed: u16,
+    pub gradient: Gradient,
+    pub past: bool,
+}
+
+// T_B and the gaps gC, gP and gBf.
+pub struct Times {
+    pub brake: u8,
+    pub c: u8,
+    pub permitted: u8,
+    pub bf: u8,
+}
+
+// The leads of the boundaries; E's is 0.
+pub struct Leads {
+    pub d: u16,
+    pub c: u16,
+    pub permitted: u16,
+    pub b: u16,
+    pub bf: u16,
+}
+
+// What the train brings to every curve: deceleration on level track, leads, F margin in km/h.
+pub struct Braking {
+    pub level: u16,
+    pub leads: Leads,
+    pub margin: u8,
+}
+
+// The computed intervals.
+pub enum Interval {
+    A,
+    Bf,
+    B,
+    C,
+    D,
+    E,
+    F,
+}
+
+// The intervals as they are shown.
+pub enum Shown {
+    Ab,
+    Computed(Interval),
+}
+
+// What a curve says at a speed.
+pub struct Judged {
+    pub held: bool,
+    pub interval: Interval,
+    pub permitted: u16,
+    pub brakes: bool,
+}

@@ -1,0 +1,100 @@
+// The sixteen places of curves: what is done to all of them, or asked of all.
+ghost use mathlib.Core.Path.{_≡_};
+ghost use Prim.Native.Nat.{min};
+ghost use Rattle.curve.specs.Places.{movedAll, judgedAll, notedAll, permittedHere, leastPermitted, brakesFrom, anyBrakes};
+use crate::Braking;
+use crate::Curve;
+use crate::Interval;
+use crate::Judged;
+use crate::intervals::rank_of;
+use crate::judging::judge;
+use crate::judging::moved_by;
+use crate::judging::noted;
+use crate::permitted::TOP;
+
+// How many curves a unit holds.
+pub const PLACES: usize = 16;
+
+// Every curve after so many cm moved.
+pub fn move_all(curves: [Curve; PLACES], moved: u16) -> [Curve; PLACES]
+    ensures { λ r. ⌜ r ≡ movedAll moved curves ⌝ }
+{
+    let mut next = curves;
+    for i in 0..PLACES {
+        let curve = curves[i];
+        next[i] = moved_by(curve, moved);
+    }
+    next
+}
+
+// What every curve says at v.
+pub fn judge_all(curves: [Curve; PLACES], braking: Braking, v: u16) -> [Judged; PLACES]
+    ensures { λ r. ⌜ r ≡ judgedAll braking v curves ⌝ }
+{
+    let mut judged = [Judged {
+        held: false,
+        interval: Interval::A,
+        permitted: TOP,
+        brakes: false,
+    }; PLACES];
+    for i in 0..PLACES {
+        let curve = curves[i];
+        judged[i] = judge(curve, braking, v);
+    }
+    judged
+}
+
+// Every curve with its past in B noted.
+pub fn note_all(curves: [Curve; PLACES], judged: [Judged; PLACES]) -> [Curve; PLACES]
+    ensures { λ r. ⌜ r ≡ notedAll curves judged ⌝ }
+{
+    let mut next = curves;
+    for i in 0..PLACES {
+        let curve = curves[i];
+        let j = judged[i];
+        let interval = j.interval;
+        next[i] = noted(curve, interval);
+    }
+    next
+}
+
+fn lower(x: u16, y: u16) -> u16
+    ensures { λ r. ⌜ r ≡ min x y ⌝ }
+{
+    if x <= y { x } else { y }
+}
+
+fn permitted_here(j: Judged) -> u16
+    ensures { λ r. ⌜ r ≡ permittedHere j ⌝ }
+{
+    if j.held { j.permitted } else { TOP }
+}
+
+// The least of the curves' permitted speeds, and 300 where there is none.
+pub fn least_permitted(judged: [Judged; PLACES]) -> u16
+    ensures { λ r. ⌜ r ≡ leastPermitted judged ⌝ }
+{
+    let mut least = TOP;
+    for i in 0..PLACES {
+        least = lower(least, permitted_here(judged[i]));
+    }
+    least
+}
+
+fn brakes_from(interval: Interval, j: Judged) -> bool
+    ensures { λ r. ⌜ r ≡ brakesFrom interval j ⌝ }
+{
+    let own = j.interval;
+    j.held & j.brakes & (rank_of(interval) <= rank_of(own))
+}
+
+// Whether a curve brakes in this interval or a later one.
+pub fn any_brakes(interval: Interval, judged: [Judged; PLACES]) -> bool
+    ensures { λ r. ⌜ r ≡ anyBrakes interval judged ⌝ }
+{
+    let mut any = false;
+    for i in 0..PLACES {
+        any = any | brakes_from(interval, judged[i]);
+    }
+    any
+}
