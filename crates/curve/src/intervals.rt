@@ -1,6 +1,6 @@
 // The computed interval and the shown one.
 ghost use mathlib.Core.Path.{_≡_};
-ghost use Rattle.curve.specs.Intervals.{intervalOf, rankOf, shownOf, computedNumber, numberOf};
+ghost use Rattle.curve.specs.Intervals.{lastReached, intervalOf, rankOf, shownOf, computedNumber, numberOf};
 use crate::Braking;
 use crate::Curve;
 use crate::Interval;
@@ -8,31 +8,45 @@ use crate::Shown;
 use crate::boundary::f_reached;
 use crate::boundary::reached;
 
-// The last reached boundary's interval.
+// The interval of the last boundary that is reached.
+fn last_reached(bf: bool, b: bool, c: bool, d: bool, e: bool, f: bool) -> Interval
+    ensures { λ r. ⌜ r ≡ lastReached bf b c d e f ⌝ }
+{
+    if f {
+        return Interval::F;
+    }
+    if e {
+        return Interval::E;
+    }
+    if d {
+        return Interval::D;
+    }
+    if c {
+        return Interval::C;
+    }
+    if b {
+        return Interval::B;
+    }
+    if bf {
+        return Interval::Bf;
+    }
+    Interval::A
+}
+
+// The computed interval at v.
 pub fn interval_of(curve: Curve, braking: Braking, v: u16) -> Interval
     ensures { λ r. ⌜ r ≡ intervalOf curve braking v ⌝ }
 {
     let level = braking.level;
     let leads = braking.leads;
-    if f_reached(curve, level, braking.margin, v) {
-        return Interval::F;
-    }
-    if reached(curve, level, v, 0) {
-        return Interval::E;
-    }
-    if reached(curve, level, v, leads.d) {
-        return Interval::D;
-    }
-    if reached(curve, level, v, leads.c) {
-        return Interval::C;
-    }
-    if reached(curve, level, v, leads.b) {
-        return Interval::B;
-    }
-    if reached(curve, level, v, leads.bf) {
-        return Interval::Bf;
-    }
-    Interval::A
+    last_reached(
+        reached(curve, level, v, leads.bf),
+        reached(curve, level, v, leads.b),
+        reached(curve, level, v, leads.c),
+        reached(curve, level, v, leads.d),
+        reached(curve, level, v, 0),
+        f_reached(curve, level, braking.margin, v),
+    )
 }
 
 // The place of an interval in the order A, Bf, B, C, D, E, F, from 0.
