@@ -2,10 +2,10 @@
 use mathlib.Core.Path.{refl}
 use Rattle.curve.specs.Deceleration.{decelerationOf}
 use Rattle.curve.specs.Lead.{leadsOf}
-use Rattle.curve.specs.Boundary.{targetOf, isAbove, leftSide, rightSide, line, isReached, isReachedF}
+use Rattle.curve.specs.Boundary.{targetOf, isAbove, leftSide, rightSide, line, lineFor, isReached, isReachedF}
 use Rattle.curve.specs.Intervals.{intervalOf}
 use Rattle.curve.specs.Figures.{curveFigures, CurveFiguresHold}
 
 pub curve-figures-hold : CurveFiguresHold
-unfolding curveFigures leadsOf intervalOf isReached isReachedF isAbove targetOf decelerationOf leftSide rightSide line
+unfolding curveFigures leadsOf intervalOf isReached isReachedF isAbove targetOf decelerationOf leftSide rightSide line lineFor
 curve-figures-hold = refl

@@ -7,7 +7,7 @@ use native.Mathlib.Omega.{arith}
 use lib.Dec.{leb, ltb, lit≤}
 use borrow.Author.Tests.{ltb-true, lt-ltb, le-ltb, leb-true, le-leb, lt-leb}
 use Rattle.curve.specs.Deceleration.{decelerationOf, onGradient}
-use Rattle.curve.specs.Boundary.{targetSpeed, targetOf, isAbove, line, isReached, isReachedF, isReachedAtKmh}
+use Rattle.curve.specs.Boundary.{targetSpeed, targetOf, isAbove, lineFor, isReached, isReachedF, isReachedAtKmh}
 use Rattle.curve.specs.Intervals.{intervalOf, rankOf}
 use Rattle.curve.specs.Judging.{isFastFor, isFast, brakesAt, judgedOf}
 use Rattle.curve.specs.Claims.{Stricter, StaysReached, FStaysReached, StaysReachedAtKmh, IntervalIsNotEarlier, StillBrakes}
@@ -48,10 +48,9 @@ above-target : (curve : Curve) (u : ℕ) → isAbove u curve ≡ true → target
 unfolding isAbove targetOf
 above-target curve u e = lt-of-le-of-lt (target-below-floor (curve .kind) (curve .speed)) (ltb-true (250 * curve .speed) u e)
 
--- the rule at a speed u, in any unit: `share` times the squares, `part` times the ground
+-- the rule at a speed u, in any unit: `share` times the squares, `parts` times the ground
 abbrev isReachedBy : ℕ → ℕ → Curve → ℕ → ℕ → ℕ → Bool
-isReachedBy share part curve level u lead =
-    isAbove u curve && line share u (targetOf curve) (decelerationOf level (curve .gradient)) (part * curve .distance) lead
+isReachedBy share parts curve level u lead = isAbove u curve && lineFor curve level share u parts lead
 
 -- ---- one curve and a stricter one
 
@@ -68,14 +67,13 @@ module _ {curve curve′ : Curve} (stricter : Stricter curve curve′) where
   unfolding targetOf
   target-no-higher = rw (stricter .kind) (target-kept (curve .kind) (curve .speed) (curve′ .speed) (stricter .speed))
 
-  module _ (share part : ℕ) {u u′ level level′ lead lead′ : ℕ} (hu : u ≤ u′) (hl : level′ ≤ level) (ht : lead ≤ lead′) where
-    line-stricter : targetOf curve′ ≤ u′
-        → line share u (targetOf curve) (decelerationOf level (curve .gradient)) (part * curve .distance) lead ≡ true
-        → line share u′ (targetOf curve′) (decelerationOf level′ (curve′ .gradient)) (part * curve′ .distance) lead′ ≡ true
+  module _ (share parts : ℕ) {u u′ level level′ lead lead′ : ℕ} (hu : u ≤ u′) (hl : level′ ≤ level) (ht : lead ≤ lead′) where
+    line-stricter : targetOf curve′ ≤ u′ → lineFor curve level share u parts lead ≡ true → lineFor curve′ level′ share u′ parts lead′ ≡ true
+    unfolding lineFor
     line-stricter floor =
-        line-kept share hu target-no-higher floor (decelerates-less level level′ hl) (mul-le-mul-left part (stricter .distance)) ht
+        line-kept share hu target-no-higher floor (decelerates-less level level′ hl) (mul-le-mul-left parts (stricter .distance)) ht
 
-    reached-stricter : isReachedBy share part curve level u lead ≡ true → isReachedBy share part curve′ level′ u′ lead′ ≡ true
+    reached-stricter : isReachedBy share parts curve level u lead ≡ true → isReachedBy share parts curve′ level′ u′ lead′ ≡ true
     reached-stricter e =
         let (above, reached) = both (isAbove u curve) _ e in
         let above′ = above-kept u u′ hu above in
@@ -107,7 +105,7 @@ f-stays-reached curve curve′ level level′ margin margin′ v v′ stricter h
 -- ---- one rule
 
 pub one-rule : OneRule
-unfolding isReachedAtKmh isReached
+unfolding isReachedAtKmh isReached lineFor
 one-rule curve level v k T e =
     let b = decelerationOf level (curve .gradient) in
     let ground : 90 * curve .distance ≡ 9 * (10 * curve .distance) = omega arith in

@@ -30,3 +30,6 @@ deceleration-within level gradient h k = by (gradient .direction)
 
 pub lead-within : (u lead : ℕ) → u ≤ 16777215 → lead ≤ 65535 → u * lead ≤ 1099511627776
 lead-within u lead h k = le-trans (mul-le-mul h k) (lit≤ tt)
+
+pub ground-within : (parts distance : ℕ) → parts ≤ 255 → distance ≤ 4294967295 → parts * distance ≤ 1099511627776
+ground-within parts distance h k = le-trans (mul-le-mul h k) (lit≤ tt)

@@ -33,11 +33,14 @@ rightSide b ground lead = pos (81 * b) *ℤ (pos ground -ℤ pos lead)
 unfoldable pub line : ℕ → ℕ → ℕ → ℕ → ℕ → ℕ → Bool
 line share u w b ground lead = leZ (rightSide b ground lead) (leftSide share u w)
 
+-- the line for a curve at u, with `parts` of the ground's unit to a cm
+unfoldable pub lineFor : Curve → ℕ → ℕ → ℕ → ℕ → ℕ → Bool
+lineFor curve level share u parts lead =
+    line share u (targetOf curve) (decelerationOf level (curve .gradient)) (parts * curve .distance) lead
+
 -- "A boundary with lead T is reached when v is above the floor and 50×(u² − w²) ≥ 81×b×(10×d − v×T)", "u = 9×v"
 unfoldable pub isReached : Curve → ℕ → ℕ → ℕ → Bool
-isReached curve level v T =
-    isAbove (9 * v) curve
-    && line 50 (9 * v) (targetOf curve) (decelerationOf level (curve .gradient)) (10 * curve .distance) (v * T)
+isReached curve level v T = isAbove (9 * v) curve && lineFor curve level 50 (9 * v) 10 (v * T)
 
 -- "F is reached when v is above the floor, u' = u − 250×F margin exceeds w, and the line holds with u' for u and T = 0";
 -- u' counts as 0 where it would be negative, and exceeds no w there
@@ -45,10 +48,8 @@ unfoldable pub isReachedF : Curve → ℕ → ℕ → ℕ → Bool
 isReachedF curve level margin v =
     isAbove (9 * v) curve
     && ltb (targetOf curve) (9 * v - 250 * margin)
-    && line 50 (9 * v - 250 * margin) (targetOf curve) (decelerationOf level (curve .gradient)) (10 * curve .distance) 0
+    && lineFor curve level 50 (9 * v - 250 * margin) 10 0
 
 -- the same at k km/h: "u = 250×k, v×T taken as 250×k×T/9, cross-multiplied", so that the line is taken 9 times
 unfoldable pub isReachedAtKmh : Curve → ℕ → ℕ → ℕ → Bool
-isReachedAtKmh curve level k T =
-    isAbove (250 * k) curve
-    && line 450 (250 * k) (targetOf curve) (decelerationOf level (curve .gradient)) (90 * curve .distance) (250 * k * T)
+isReachedAtKmh curve level k T = isAbove (250 * k) curve && lineFor curve level 450 (250 * k) 90 (250 * k * T)

@@ -23,7 +23,7 @@ mul-less : tie.Need-mul-less
 mul-less c = search needs
 
 less-requires : tie.Need-less-requires
-less-requires c κs = search needs
+less-requires c κs = tt
 
 returns : tie.Need-returns
 unfolding decelerationOf

@@ -5,25 +5,25 @@ use Rattle.curve.proofs.intervals.interval_of.Statement.{statement}
 use Rattle.curve.proofs.intervals.interval_of.Tie as tie
 
 reached-requires : tie.Need-reached-requires
-reached-requires c κs = search needs
+reached-requires c κs = tt
 
 reached-requires-2 : tie.Need-reached-requires-2
-reached-requires-2 c κs = search needs
+reached-requires-2 c κs = tt
 
 reached-requires-3 : tie.Need-reached-requires-3
-reached-requires-3 c κs = search needs
+reached-requires-3 c κs = tt
 
 reached-requires-4 : tie.Need-reached-requires-4
-reached-requires-4 c κs = search needs
+reached-requires-4 c κs = tt
 
 reached-requires-5 : tie.Need-reached-requires-5
-reached-requires-5 c κs = search needs
+reached-requires-5 c κs = tt
 
 f-reached-requires : tie.Need-f-reached-requires
-f-reached-requires c κs = search needs
+f-reached-requires c κs = tt
 
 last-reached-requires : tie.Need-last-reached-requires
-last-reached-requires c κs = search needs
+last-reached-requires c κs = tt
 
 returns : tie.Need-returns
 unfolding intervalOf

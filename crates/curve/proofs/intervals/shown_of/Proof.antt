@@ -8,10 +8,10 @@ use Rattle.curve.proofs.intervals.shown_of.Statement.{statement}
 use Rattle.curve.proofs.intervals.shown_of.Tie as tie
 
 rank-of-requires : tie.Need-rank-of-requires
-rank-of-requires c κs = search needs
+rank-of-requires c κs = tt
 
 rank-of-requires-2 : tie.Need-rank-of-requires-2
-rank-of-requires-2 c κs = search needs
+rank-of-requires-2 c κs = tt
 
 returns : tie.Need-returns
 unfolding shownOf

@@ -5,13 +5,13 @@ use Rattle.curve.proofs.judging.brakes_at.Statement.{statement}
 use Rattle.curve.proofs.judging.brakes_at.Tie as tie
 
 rank-of-requires : tie.Need-rank-of-requires
-rank-of-requires c κs = search needs
+rank-of-requires c κs = tt
 
 rank-of-requires-2 : tie.Need-rank-of-requires-2
-rank-of-requires-2 c κs = search needs
+rank-of-requires-2 c κs = tt
 
 is-fast-requires : tie.Need-is-fast-requires
-is-fast-requires c κs = search needs
+is-fast-requires c κs = tt
 
 returns : tie.Need-returns
 unfolding brakesAt

@@ -5,13 +5,13 @@ use Rattle.curve.proofs.judging.judge.Statement.{statement}
 use Rattle.curve.proofs.judging.judge.Tie as tie
 
 interval-of-requires : tie.Need-interval-of-requires
-interval-of-requires c κs = search needs
+interval-of-requires c κs = tt
 
 permitted-of-requires : tie.Need-permitted-of-requires
-permitted-of-requires c κs = search needs
+permitted-of-requires c κs = tt
 
 brakes-at-requires : tie.Need-brakes-at-requires
-brakes-at-requires c κs = search needs
+brakes-at-requires c κs = tt
 
 returns : tie.Need-returns
 unfolding judgedOf

@@ -4,7 +4,7 @@ use Rattle.curve.proofs.judging.moved_by.Statement.{statement}
 use Rattle.curve.proofs.judging.moved_by.Tie as tie
 
 less-requires : tie.Need-less-requires
-less-requires c κs = search needs
+less-requires c κs = tt
 
 returns : tie.Need-returns
 returns c = rw (c .less .ensures)

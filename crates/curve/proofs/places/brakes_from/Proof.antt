@@ -4,10 +4,10 @@ use Rattle.curve.proofs.places.brakes_from.Statement.{statement}
 use Rattle.curve.proofs.places.brakes_from.Tie as tie
 
 rank-of-requires : tie.Need-rank-of-requires
-rank-of-requires c κs = search needs
+rank-of-requires c κs = tt
 
 rank-of-requires-2 : tie.Need-rank-of-requires-2
-rank-of-requires-2 c κs = search needs
+rank-of-requires-2 c κs = tt
 
 returns : tie.Need-returns
 returns c = rw (c .rank-of2 .ensures, c .before .rank-of .ensures)
