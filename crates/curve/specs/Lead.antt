@@ -1,5 +1,5 @@
 -- The leads (01, "Curves": "E 0; D T_B; C T_B + gC; permitted gP more; B 30 more; Bf gBf more").
-use Prim.Native.Nat.{ℕ, _+_}
+use Prim.Native.Nat.{_+_}
 use Rattle.curve.specs.declared.Times.{Times}
 use Rattle.curve.specs.declared.Leads.{Leads}
 

@@ -1,6 +1,6 @@
 -- `curve::boundary::f_reached` meets its contract.
-use Rattle.curve.specs.Boundary.{isReachedF}
 use borrow.Author.Needs.{needs}
+use Rattle.curve.specs.Boundary.{isReachedF}
 use Rattle.curve.proofs.boundary.f_reached.Statement.{statement}
 use Rattle.curve.proofs.boundary.f_reached.Tie as tie
 

@@ -1,7 +1,7 @@
 -- `curve::boundary::is_above` meets its contract.
 use mathlib.Core.Path.{refl}
-use Rattle.curve.specs.Boundary.{isAbove}
 use borrow.Author.Needs.{needs}
+use Rattle.curve.specs.Boundary.{isAbove}
 use Rattle.curve.proofs.boundary.is_above.Statement.{statement}
 use Rattle.curve.proofs.boundary.is_above.Tie as tie
 

@@ -2,10 +2,10 @@
 use native.Mathlib.Omega.{arith}
 use mir.Syntax.{w64}
 use mir.ValLaws.{toZ-ofZ}
+use borrow.Author.Needs.{needs}
 use Rattle.curve.specs.Boundary.{line, lineFor}
 use Rattle.curve.proofs.Line.{left-fits, right-fits}
 use Rattle.curve.proofs.Widths.{target-within, deceleration-within, ground-within}
-use borrow.Author.Needs.{needs}
 use Rattle.curve.proofs.boundary.line_holds.Statement.{statement}
 use Rattle.curve.proofs.boundary.line_holds.Tie as tie
 

@@ -1,9 +1,9 @@
 -- `curve::boundary::reached` meets its contract.
 use native.Mathlib.Omega.{arith}
 use lib.Dec.{lit≤}
+use borrow.Author.Needs.{needs}
 use Rattle.curve.specs.Boundary.{isReached}
 use Rattle.curve.proofs.Widths.{lead-within}
-use borrow.Author.Needs.{needs}
 use Rattle.curve.proofs.boundary.reached.Statement.{statement}
 use Rattle.curve.proofs.boundary.reached.Tie as tie
 

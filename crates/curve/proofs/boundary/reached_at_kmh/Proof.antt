@@ -2,9 +2,9 @@
 use Prim.Native.Nat.{_*_}
 use native.Mathlib.Omega.{arith}
 use lib.Dec.{lit≤}
+use borrow.Author.Needs.{needs}
 use Rattle.curve.specs.Boundary.{isReachedAtKmh}
 use Rattle.curve.proofs.Widths.{lead-within}
-use borrow.Author.Needs.{needs}
 use Rattle.curve.proofs.boundary.reached_at_kmh.Statement.{statement}
 use Rattle.curve.proofs.boundary.reached_at_kmh.Tie as tie
 

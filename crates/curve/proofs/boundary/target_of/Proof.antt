@@ -1,6 +1,6 @@
 -- `curve::boundary::target_of` meets its contract.
-use Rattle.curve.specs.Boundary.{targetOf}
 use borrow.Author.Needs.{needs}
+use Rattle.curve.specs.Boundary.{targetOf}
 use Rattle.curve.proofs.boundary.target_of.Statement.{statement}
 use Rattle.curve.proofs.boundary.target_of.Tie as tie
 

@@ -1,6 +1,6 @@
 -- `curve::deceleration::deceleration_of` meets its contract.
-use Rattle.curve.specs.Deceleration.{decelerationOf}
 use borrow.Author.Needs.{needs}
+use Rattle.curve.specs.Deceleration.{decelerationOf}
 use Rattle.curve.proofs.deceleration.deceleration_of.Statement.{statement}
 use Rattle.curve.proofs.deceleration.deceleration_of.Tie as tie
 

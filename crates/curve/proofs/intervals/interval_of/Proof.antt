@@ -1,6 +1,5 @@
 -- `curve::intervals::interval_of` meets its contract.
 use Rattle.curve.specs.Intervals.{intervalOf}
-use borrow.Author.Needs.{needs}
 use Rattle.curve.proofs.intervals.interval_of.Statement.{statement}
 use Rattle.curve.proofs.intervals.interval_of.Tie as tie
 

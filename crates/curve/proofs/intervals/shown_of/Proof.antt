@@ -3,7 +3,6 @@ use mathlib.Core.Path.{_≡_, subst₂}
 use mathlib.Core.Bool.{true, false, _&&_}
 use lib.Dec.{ltb}
 use Rattle.curve.specs.Intervals.{shownOf}
-use borrow.Author.Needs.{needs}
 use Rattle.curve.proofs.intervals.shown_of.Statement.{statement}
 use Rattle.curve.proofs.intervals.shown_of.Tie as tie
 

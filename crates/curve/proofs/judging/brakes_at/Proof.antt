@@ -1,6 +1,5 @@
 -- `curve::judging::brakes_at` meets its contract.
 use Rattle.curve.specs.Judging.{brakesAt}
-use borrow.Author.Needs.{needs}
 use Rattle.curve.proofs.judging.brakes_at.Statement.{statement}
 use Rattle.curve.proofs.judging.brakes_at.Tie as tie
 

@@ -1,6 +1,6 @@
 -- `curve::judging::is_fast` meets its contract.
-use Rattle.curve.specs.Judging.{isFast}
 use borrow.Author.Needs.{needs}
+use Rattle.curve.specs.Judging.{isFast}
 use Rattle.curve.proofs.judging.is_fast.Statement.{statement}
 use Rattle.curve.proofs.judging.is_fast.Tie as tie
 

@@ -1,6 +1,5 @@
 -- `curve::judging::judge` meets its contract.
 use Rattle.curve.specs.Judging.{judgedOf}
-use borrow.Author.Needs.{needs}
 use Rattle.curve.proofs.judging.judge.Statement.{statement}
 use Rattle.curve.proofs.judging.judge.Tie as tie
 

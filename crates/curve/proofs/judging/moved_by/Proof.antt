@@ -1,5 +1,4 @@
 -- `curve::judging::moved_by` meets its contract.
-use borrow.Author.Needs.{needs}
 use Rattle.curve.proofs.judging.moved_by.Statement.{statement}
 use Rattle.curve.proofs.judging.moved_by.Tie as tie
 

@@ -1,5 +1,4 @@
 -- `curve::judging::noted` meets its contract.
-use borrow.Author.Needs.{needs}
 use Rattle.curve.proofs.judging.noted.Statement.{statement}
 use Rattle.curve.proofs.judging.noted.Tie as tie
 

@@ -1,7 +1,7 @@
 -- `curve::lead::leads_of` meets its contract.
 use mathlib.Core.Path.{refl}
-use Rattle.curve.specs.Lead.{leadsOf}
 use borrow.Author.Needs.{needs}
+use Rattle.curve.specs.Lead.{leadsOf}
 use Rattle.curve.proofs.lead.leads_of.Statement.{statement}
 use Rattle.curve.proofs.lead.leads_of.Tie as tie
 

@@ -1,5 +1,4 @@
 -- `curve::places::any_brakes` meets its contract.
-use Rattle.curve.proofs.Loops.{any-step, any-end}
 use Prim.Native.Nat.{_≤_, _-_}
 use mathlib.Core.Path.{_≡_, refl, _∙_}
 use mathlib.Core.Bool.{_||_}
@@ -7,6 +6,7 @@ use native.Mathlib.Omega.{arith}
 use lib.ListN.{length, drop}
 use borrow.Author.Needs.{needs}
 use Rattle.curve.specs.Places.{anyBrakes}
+use Rattle.curve.proofs.Loops.{any-step, any-end}
 use Rattle.curve.proofs.places.any_brakes.Statement.{statement}
 use Rattle.curve.proofs.places.any_brakes.Tie as tie
 

@@ -1,5 +1,4 @@
 -- `curve::places::brakes_from` meets its contract.
-use borrow.Author.Needs.{needs}
 use Rattle.curve.proofs.places.brakes_from.Statement.{statement}
 use Rattle.curve.proofs.places.brakes_from.Tie as tie
 

@@ -1,11 +1,11 @@
 -- `curve::places::least_permitted` meets its contract.
-use Rattle.curve.proofs.Loops.{least-start, least-step, least-end}
 use Prim.Native.Nat.{_≤_, _-_, min}
-use mathlib.Core.Path.{_≡_, refl, _∙_}
+use mathlib.Core.Path.{_≡_, _∙_}
 use native.Mathlib.Omega.{arith}
 use lib.ListN.{length, drop}
 use borrow.Author.Needs.{needs}
 use Rattle.curve.specs.Places.{leastPermitted}
+use Rattle.curve.proofs.Loops.{least-start, least-step, least-end}
 use Rattle.curve.proofs.places.least_permitted.Statement.{statement}
 use Rattle.curve.proofs.places.least_permitted.Tie as tie
 

@@ -4,8 +4,8 @@ use mathlib.Core.Path.{_≡_, refl, _∙_}
 use mathlib.Core.List.{_++_}
 use native.Mathlib.Omega.{arith}
 use lib.ListN.{length, take, drop, length-map}
-use Rattle.laws.proofs.Lists.{copy-past, map-step}
 use borrow.Author.Needs.{needs}
+use Rattle.laws.proofs.Lists.{copy-past, map-step}
 use Rattle.curve.specs.Judging.{movedBy}
 use Rattle.curve.specs.Places.{movedAll}
 use Rattle.curve.proofs.Loops.{noCurve}
