@@ -8,7 +8,7 @@ use crate::Kind;
 use crate::deceleration::deceleration_of;
 use crate::deceleration::less;
 
-// The bounds are those of the widths that the callers read their figures from.
+// The left side. The bounds here and below follow from the widths of a curve's and a train's figures.
 fn left_side(share: u16, u: u32, w: u32) -> i64
     requires { ⌜ (share ≤ 450) × (u ≤ 16777215) × (w ≤ 16777215) ⌝ }
     ensures { λ r. ⌜ r ≡ leftSide share u w ⌝ }
@@ -18,6 +18,7 @@ fn left_side(share: u16, u: u32, w: u32) -> i64
     share as i64 * ((u * u) as i64 - (w * w) as i64)
 }
 
+// The right side.
 fn right_side(b: u32, ground: u64, lead: u64) -> i64
     requires { ⌜ (b ≤ 67830) × (ground ≤ 1099511627776) × (lead ≤ 1099511627776) ⌝ }
     ensures { λ r. ⌜ r ≡ rightSide b ground lead ⌝ }

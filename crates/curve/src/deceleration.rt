@@ -24,6 +24,7 @@ pub fn deceleration_of(level: u16, gradient: Gradient) -> u32
     }
 }
 
+// x less y, and 0 where y is more.
 pub fn less(x: u32, y: u32) -> u32
     ensures { λ r. ⌜ r ≡ x - y ⌝ }
 {

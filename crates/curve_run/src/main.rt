@@ -9,6 +9,7 @@ use curve::Gradient;
 use curve::Interval;
 use curve::Judged;
 use curve::Kind;
+use curve::PLACES;
 use fields::braking_of;
 use fields::curve_of;
 use fields::moved_of;
@@ -21,7 +22,7 @@ use text::put_number;
 // The places after a record, and whether there was one.
 struct Outcome {
     read: bool,
-    curves: [Curve; 16],
+    curves: [Curve; PLACES],
 }
 
 fn kind_number(kind: Kind) -> u64 {
@@ -86,11 +87,11 @@ fn judge_one(r: &[u8]) {
 }
 
 // Puts the record's curve into its place; a place from 16 on is none.
-fn put_in_place(r: &[u8], held: bool, curves: [Curve; 16]) -> [Curve; 16] {
+fn put_in_place(r: &[u8], held: bool, curves: [Curve; PLACES]) -> [Curve; PLACES] {
     let c = curve_of(r, held);
     let at = place_of(r);
     let mut next = curves;
-    if at < 16 {
+    if at < PLACES {
         next[at] = c;
     }
     put_number(b"place ", at as u64);
@@ -100,7 +101,7 @@ fn put_in_place(r: &[u8], held: bool, curves: [Curve; 16]) -> [Curve; 16] {
     next
 }
 
-fn put_any(name: &[u8], interval: Interval, judged: [Judged; 16]) {
+fn put_any(name: &[u8], interval: Interval, judged: [Judged; PLACES]) {
     put(name);
     if curve::any_brakes(interval, judged) {
         put(b"1");
@@ -110,7 +111,7 @@ fn put_any(name: &[u8], interval: Interval, judged: [Judged; 16]) {
 }
 
 // What all places say together.
-fn put_all(v: u16, judged: [Judged; 16]) {
+fn put_all(v: u16, judged: [Judged; PLACES]) {
     put_number(b"all v ", v as u64);
     put_number(b": permitted ", curve::least_permitted(judged) as u64);
     put_any(b" D ", Interval::D, judged);
@@ -119,9 +120,9 @@ fn put_all(v: u16, judged: [Judged; 16]) {
 }
 
 // What one place says, of all that were moved, judged and noted.
-fn put_place(at: usize, noted: [Curve; 16], judged: [Judged; 16]) {
+fn put_place(at: usize, noted: [Curve; PLACES], judged: [Judged; PLACES]) {
     put_number(b" place ", at as u64);
-    if at < 16 {
+    if at < PLACES {
         let c = noted[at];
         let j = judged[at];
         if j.held {
@@ -134,7 +135,7 @@ fn put_place(at: usize, noted: [Curve; 16], judged: [Judged; 16]) {
 }
 
 // Moves, judges and notes every place, and prints what all say together and what the record's place says.
-fn judge_places(r: &[u8], curves: [Curve; 16]) -> [Curve; 16] {
+fn judge_places(r: &[u8], curves: [Curve; PLACES]) -> [Curve; PLACES] {
     let v = speed_of(r);
     let moved = curve::move_all(curves, moved_of(r));
     let judged = curve::judge_all(moved, braking_of(r), v);
@@ -146,7 +147,7 @@ fn judge_places(r: &[u8], curves: [Curve; 16]) -> [Curve; 16] {
 }
 
 // The places after a record.
-fn after(r: &[u8], curves: [Curve; 16]) -> [Curve; 16] {
+fn after(r: &[u8], curves: [Curve; PLACES]) -> [Curve; PLACES] {
     match wire::byte_at(r, 0) {
         1 => put_in_place(r, true, curves),
         2 => judge_places(r, curves),
@@ -159,7 +160,7 @@ fn after(r: &[u8], curves: [Curve; 16]) -> [Curve; 16] {
 }
 
 // Reads one record and prints its line.
-fn turn(curves: [Curve; 16]) -> Outcome {
+fn turn(curves: [Curve; PLACES]) -> Outcome {
     let mut record = [0u8; 25];
     if io::read_full(0, &mut record) < 25 {
         return Outcome {
@@ -190,9 +191,9 @@ fn no_curve() -> Curve {
     }
 }
 
-fn no_curves() -> [Curve; 16] {
+fn no_curves() -> [Curve; PLACES] {
     let c = no_curve();
-    [c; 16]
+    [c; PLACES]
 }
 
 // A proved loop ends, and nothing says that the input does: so the turns are counted down.
