@@ -1,0 +1,13 @@
+pub mod Numbers
+pub mod Operands
+pub mod Places
+pub mod Speeds
+pub mod Table
+pub mod Checks
+pub mod Releases
+pub mod Steps
+pub mod Shows
+pub mod Reports
+pub mod Commands
+pub mod Refusals
+pub mod Calls

@@ -1,0 +1,170 @@
+-- The operands of the commands and their ranges (01, "Commands", the table's third column). Each is read at its place after the
+-- code and the number; refusals 3 and 4 have gone before.
+use Prim.Native.Nat.{ℕ, suc, _*_, _/_, _%_, _^_}
+use mathlib.Core.Bool.{Bool, true, false, cond, _&&_, _||_}
+use mathlib.Core.List.{List}
+use lib.Dec.{eqb, leb}
+use lib.IntN.{ℤ, pos, negsuc}
+use lib.ListN.{drop}
+use Rattle.wire.specs.Numbers.{byteAt, number, signed}
+use Rattle.pressure.specs.declared.Feed.{Feed}
+use Rattle.curve.specs.declared.Kind.{Kind}
+use Rattle.curve.specs.declared.Direction.{Direction}
+use Rattle.curve.specs.declared.Gradient.{Gradient}
+use Rattle.curve.specs.declared.Curve.{Curve}
+use Rattle.rules.specs.declared.Code.{Code}
+use Rattle.rules.specs.declared.Train.{Train}
+use Rattle.rules.specs.declared.Section.{Section}
+use Rattle.rules.specs.declared.Reading.{Reading}
+
+-- "one code byte, a four-byte number, operands"
+abbrev pub codeByte : List ℕ → ℕ
+codeByte command = byteAt command 0
+
+abbrev pub numberOf : List ℕ → ℕ
+numberOf command = number 4 (drop 1 command)
+
+abbrev pub operandsOf : List ℕ → List ℕ
+operandsOf command = drop 5 command
+
+-- "operands of fixed width": one of 2 bytes, at its place
+abbrev pub twoAt : List ℕ → ℕ → ℕ
+twoAt s at = number 2 (drop at s)
+
+-- "bit 0", "bit 1" ..: whether a bit of a byte is set
+abbrev pub bitOf : ℕ → ℕ → Bool
+bitOf n byte = eqb (byte / 2 ^ n % 2) 1
+
+-- a range, "10–300"
+abbrev pub within : ℕ → ℕ → ℕ → Bool
+within least most x = leb least x && leb x most
+
+-- ---- 01 start
+
+unfoldable pub startInRange : List ℕ → Bool
+startInRange s =
+    -- "flags 1 (bit 0 .., bit 1 ..; others 0)"
+    leb (byteAt s 0) 3
+    -- "train speed 2, 10–300; length 2, 10–1,000 m"
+    && within 10 300 (twoAt s 1)
+    && within 10 1000 (twoAt s 3)
+    -- "full deceleration 2, 400–2,000; soft deceleration 2, 400 up to full"
+    && within 400 2000 (twoAt s 5)
+    && within 400 (twoAt s 5) (twoAt s 7)
+    -- "T_B 1, 1–100; gaps gC, gP, gBf 1 each, 0–200"
+    && within 1 100 (byteAt s 9)
+    && leb (byteAt s 10) 200
+    && leb (byteAt s 11) 200
+    && leb (byteAt s 12) 200
+    -- "F margin 1, 1–30 km/h; overspeed emergency margin 1, 11–30 km/h"
+    && within 1 30 (byteAt s 13)
+    && within 11 30 (byteAt s 14)
+    -- "sufficient application 1, 30–150 kPa; P_FULL 2, 150–600 kPa; T_EBCHK 1, 1–100"
+    && within 30 150 (byteAt s 15)
+    && within 150 600 (twoAt s 16)
+    && within 1 100 (byteAt s 18)
+
+-- "bit 1 cylinder feedback"
+abbrev pub feedOf : Bool → Feed
+feedOf true = Feed.Cylinder
+feedOf false = Feed.Pipe
+
+unfoldable pub trainOf : List ℕ → Train
+trainOf s = record {
+  softly = bitOf 0 (byteAt s 0);
+  feed = feedOf (bitOf 1 (byteAt s 0));
+  speed = twoAt s 1;
+  length = twoAt s 3;
+  full = twoAt s 5;
+  soft = twoAt s 7;
+  times = record { brake = byteAt s 9; c = byteAt s 10; permitted = byteAt s 11; bf = byteAt s 12 };
+  margin = byteAt s 13;
+  emergency = byteAt s 14;
+  sufficient = byteAt s 15;
+  pressure = twoAt s 16;
+  check = byteAt s 18;
+}
+
+-- ---- 10 odometer
+
+-- "speed 2, 0–10,000; moved 2, 0–1,200 cm; .. buttons 1 (.. others 0)"; the two signed operands have no range
+unfoldable pub odometerInRange : List ℕ → Bool
+odometerInRange s = leb (twoAt s 0) 10000 && leb (twoAt s 2) 1200 && leb (byteAt s 8) 15
+
+-- "buttons 1 (bit 0 LOSS, 1 text, 2 HALKA, 3 neutral ..)"
+unfoldable pub readingOf : List ℕ → Reading
+readingOf s = record {
+  speed = twoAt s 0;
+  moved = twoAt s 2;
+  measured = signed 65536 (twoAt s 4);
+  external = signed 65536 (twoAt s 6);
+  loss = bitOf 0 (byteAt s 8);
+  text = bitOf 1 (byteAt s 8);
+  halka = bitOf 2 (byteAt s 8);
+  neutral = bitOf 3 (byteAt s 8);
+}
+
+-- ---- 20 curve
+
+-- "kind 1 (0 speed target, 1 Expect Stop)"
+abbrev pub kindOf : ℕ → Kind
+kindOf byte = cond (eqb byte 0) Kind.SpeedTarget Kind.ExpectStop
+
+-- "speed 2 (kind 0: target 10–300; kind 1: release speed, 10 or 40)"
+abbrev pub speedInRange : Kind → ℕ → Bool
+speedInRange Kind.SpeedTarget speed = within 10 300 speed
+speedInRange Kind.ExpectStop speed = eqb speed 10 || eqb speed 40
+
+-- "gradient 1, signed": a direction and a size
+abbrev pub gradientFrom : ℤ → Gradient
+gradientFrom (pos n) = record { direction = Direction.Up; size = n }
+gradientFrom (negsuc n) = record { direction = Direction.Down; size = suc n }
+
+abbrev pub gradientOf : ℕ → Gradient
+gradientOf byte = gradientFrom (signed 256 byte)
+
+unfoldable pub curveInRange : List ℕ → Bool
+curveInRange s =
+    -- "id 1, 0–254; kind 1 (0 .., 1 ..); distance 2, 0–10,000 m"
+    leb (byteAt s 0) 254
+    && leb (byteAt s 1) 1
+    && leb (twoAt s 2) 10000
+    && speedInRange (kindOf (byteAt s 1)) (twoAt s 4)
+    -- "−30–30 ‰"
+    && leb (gradientOf (byteAt s 6) .size) 30
+
+-- the curve, its distance in cm
+unfoldable pub curveOf : List ℕ → Curve
+curveOf s = record {
+  held = true;
+  id = byteAt s 0;
+  kind = kindOf (byteAt s 1);
+  distance = 100 * twoAt s 2;
+  speed = twoAt s 4;
+  gradient = gradientOf (byteAt s 6);
+  past = false;
+}
+
+-- ---- 22 section
+
+-- "id 1, 0–254; speed 2, 10–300"
+unfoldable pub sectionInRange : List ℕ → Bool
+sectionInRange s = leb (byteAt s 0) 254 && within 10 300 (twoAt s 1)
+
+unfoldable pub sectionOf : List ℕ → Section
+sectionOf s = record { held = true; id = byteAt s 0; speed = twoAt s 1; ending = false; ground = 0 }
+
+-- ---- all commands
+
+-- refusal 9 asks it: every operand is in its range
+abbrev pub inRange : Code → List ℕ → Bool
+inRange Code.Start s = startInRange s
+inRange Code.ChangeState s = leb (byteAt s 0) 4
+inRange Code.Odometer s = odometerInRange s
+inRange Code.NewCurve s = curveInRange s
+inRange Code.EndCurve s = leb (byteAt s 0) 254
+inRange Code.NewSection s = sectionInRange s
+inRange Code.EndSection s = leb (byteAt s 0) 254
+inRange Code.StopPassed s = leb (byteAt s 0) 2
+inRange Code.Proceed s = true
+inRange Code.BaliseError s = true

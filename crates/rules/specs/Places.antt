@@ -1,0 +1,156 @@
+-- The places of curves and sections (01, "Answers", refusals 12 and 13 and what follows them; "Curves").
+use Prim.Native.Nat.{ℕ, zero, suc, _+_, _*_}
+use mathlib.Core.Bool.{Bool, true, false, cond, not, _&&_, _||_}
+use mathlib.Core.List.{List, [], _∷_, map, foldr}
+use lib.Dec.{eqb, leb}
+use Rattle.curve.specs.declared.Kind.{Kind}
+use Rattle.curve.specs.declared.Direction.{Direction}
+use Rattle.curve.specs.declared.Curve.{Curve}
+use Rattle.curve.specs.Places.{movedAll}
+use Rattle.rules.specs.declared.Section.{Section}
+use Rattle.rules.specs.declared.Track.{Track}
+
+-- so many of the same
+abbrev pub copies : {A : Type 0} → ℕ → A → List A
+copies zero x = []
+copies (suc n) x = x ∷ copies n x
+
+-- a test passes at one of a list, or at all of it
+unfoldable pub anyOf : {A : Type 0} → (A → Bool) → List A → Bool
+anyOf test [] = false
+anyOf test (x ∷ xs) = test x || anyOf test xs
+
+unfoldable pub allOf : {A : Type 0} → (A → Bool) → List A → Bool
+allOf test [] = true
+allOf test (x ∷ xs) = test x && allOf test xs
+
+-- places that hold nothing
+abbrev pub freeCurve : Curve
+freeCurve = record {
+  held = false;
+  id = 0;
+  kind = Kind.SpeedTarget;
+  distance = 0;
+  speed = 0;
+  gradient = record { direction = Direction.Up; size = 0 };
+  past = false;
+}
+
+abbrev pub freeSection : Section
+freeSection = record { held = false; id = 0; speed = 0; ending = false; ground = 0 }
+
+-- "all 16 curves, or all 16 sections"
+abbrev pub places : ℕ
+places = 16
+
+-- no curve, no section, no 40
+unfoldable pub freshTrack : Track
+freshTrack = record { curves = copies places freeCurve; sections = copies places freeSection; forty = false }
+
+-- ---- curves
+
+-- this place holds the id
+abbrev pub isCurve : ℕ → Curve → Bool
+isCurve id curve = curve .held && eqb (curve .id) id
+
+abbrev pub holdsCurve : ℕ → List Curve → Bool
+holdsCurve id curves = anyOf (isCurve id) curves
+
+-- refusal 13: "all 16 curves .. held"
+abbrev pub allCurvesHeld : List Curve → Bool
+allCurvesHeld curves = allOf (λ curve. curve .held) curves
+
+-- "A held id is replaced (its past in B is kept ..)"
+abbrev pub withPast : Curve → Bool → Curve
+withPast curve past = record {
+  held = curve .held;
+  id = curve .id;
+  kind = curve .kind;
+  distance = curve .distance;
+  speed = curve .speed;
+  gradient = curve .gradient;
+  past = past;
+}
+
+abbrev pub replacedCurve : Curve → Curve → Curve
+replacedCurve new curve = cond (isCurve (new .id) curve) (withPast new (curve .past)) curve
+
+-- "A freed place is used again": the first that holds none
+unfoldable pub placedCurve : Curve → List Curve → List Curve
+placedCurve new [] = []
+placedCurve new (curve ∷ curves) = cond (curve .held) (curve ∷ placedCurve new curves) (new ∷ curves)
+
+-- a new curve among the others
+unfoldable pub givenCurve : Curve → List Curve → List Curve
+givenCurve new curves = cond (holdsCurve (new .id) curves) (map (replacedCurve new) curves) (placedCurve new curves)
+
+-- "only an ending, CS or a start removes a curve"
+unfoldable pub endedCurve : ℕ → List Curve → List Curve
+endedCurve id curves = map (λ curve. cond (isCurve id curve) freeCurve curve) curves
+
+-- ---- sections
+
+abbrev pub isSection : ℕ → Section → Bool
+isSection id section = section .held && eqb (section .id) id
+
+abbrev pub holdsSection : ℕ → List Section → Bool
+holdsSection id sections = anyOf (isSection id) sections
+
+-- refusal 12: "its section is already ending", so that what can be ended is held and doesn't end yet
+abbrev pub standsSection : ℕ → List Section → Bool
+standsSection id sections = anyOf (λ section. isSection id section && not (section .ending)) sections
+
+-- refusal 13: "all 16 sections, held"; an ending one is held
+abbrev pub allSectionsHeld : List Section → Bool
+allSectionsHeld sections = allOf (λ section. section .held) sections
+
+-- "A held id is replaced (.. an ending section stands again)"
+abbrev pub replacedSection : Section → Section → Section
+replacedSection new section = cond (isSection (new .id) section) new section
+
+unfoldable pub placedSection : Section → List Section → List Section
+placedSection new [] = []
+placedSection new (section ∷ sections) = cond (section .held) (section ∷ placedSection new sections) (new ∷ sections)
+
+unfoldable pub givenSection : Section → List Section → List Section
+givenSection new sections =
+    cond (holdsSection (new .id) sections) (map (replacedSection new) sections) (placedSection new sections)
+
+-- a section whose end is told, with the ground moved since
+abbrev pub endingSection : Section → ℕ → Section
+endingSection section ground = record {
+  held = section .held;
+  id = section .id;
+  speed = section .speed;
+  ending = true;
+  ground = ground;
+}
+
+unfoldable pub endedSection : ℕ → List Section → List Section
+endedSection id sections = map (λ section. cond (isSection id section) (endingSection section 0) section) sections
+
+-- "an ending one until the ground moved since reaches the train's length"; the length is in m
+unfoldable pub movedSection : ℕ → ℕ → Section → Section
+movedSection length moved section =
+    cond (section .held && section .ending)
+    (cond (leb (100 * length) (section .ground + moved)) freeSection (endingSection section (section .ground + moved)))
+    section
+
+-- ---- the whole track
+
+abbrev pub withCurves : Track → List Curve → Track
+withCurves track curves = record { curves = curves; sections = track .sections; forty = track .forty }
+
+abbrev pub withSections : Track → List Section → Track
+withSections track sections = record { curves = track .curves; sections = sections; forty = track .forty }
+
+abbrev pub withForty : Track → Bool → Track
+withForty track forty = record { curves = track .curves; sections = track .sections; forty = forty }
+
+-- ground moved: "d falls by the ground moved", and the ground of every ending section grows by it
+unfoldable pub movedTrack : ℕ → ℕ → Track → Track
+movedTrack length moved track = record {
+  curves = movedAll moved (track .curves);
+  sections = map (movedSection length moved) (track .sections);
+  forty = track .forty;
+}

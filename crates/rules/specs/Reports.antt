@@ -1,0 +1,97 @@
+-- The report (01, "Report").
+use Prim.Native.Nat.{ℕ, _+_, _*_, _^_}
+use mathlib.Core.Bool.{Bool, true, false, cond, _&&_}
+use mathlib.Core.List.{List, [], _∷_, _++_, map, foldr}
+use Rattle.wire.specs.Numbers.{highByte, lowByte}
+use Rattle.pressure.specs.declared.Measured.{Measured}
+use Rattle.curve.specs.declared.Braking.{Braking}
+use Rattle.curve.specs.declared.Judged.{Judged}
+use Rattle.curve.specs.Boundary.{isReached}
+use Rattle.curve.specs.Intervals.{numberOf}
+use Rattle.rules.specs.Numbers.{stateNumber, orderNumber, barNumber, modeNumber, bitNumber}
+use Rattle.rules.specs.Places.{anyOf}
+use Rattle.rules.specs.Speeds.{brakingOf, judgedNow, vmaxOf, permittedSpeed}
+use Rattle.rules.specs.Table.{causes, stands, orderOf, isDropped}
+use Rattle.rules.specs.Shows.{chosen, shownAs, barOf, modeOf}
+use Rattle.rules.specs.Steps.{isInsufficient, seenIn}
+use Rattle.rules.specs.declared.State.{State}
+use Rattle.rules.specs.declared.Train.{Train}
+use Rattle.rules.specs.declared.Causes.{Causes}
+use Rattle.rules.specs.declared.Brakes.{Brakes}
+use Rattle.rules.specs.declared.Kept.{Kept}
+use Rattle.rules.specs.declared.Seen.{Seen}
+use Rattle.rules.specs.declared.Candidate.{Candidate}
+use Rattle.rules.specs.declared.Stm.{Stm}
+
+-- a bit of a byte or of two
+abbrev pub bitValue : Bool → ℕ → ℕ
+bitValue set bit = cond set (2 ^ bit) 0
+
+-- "causes 2"
+unfoldable pub causesNumber : Causes → ℕ
+causesNumber c = foldr _+_ 0 (map (λ cause. bitValue (stands c cause) (bitNumber cause)) causes)
+
+-- "messages (bit 0 DRIFTBROMSFEL, 1 NÖDBROMSFEL, 2 TRYCKGIVARFEL at the last odometer report)"
+unfoldable pub messagesOf : Brakes → Measured → ℕ
+messagesOf b feedback = bitValue (b .drift) 0 + bitValue (b .failed) 1 + bitValue (feedback .fault) 2
+
+-- "release offered (1 if a fresh LOSS would drop a cause, plus 2 if a fresh text would)"
+abbrev pub wouldDrop : Seen → Bool → Bool → Causes → Bool
+wouldDrop s loss text c = anyOf (λ cause. stands c cause && isDropped s loss text c cause) causes
+
+unfoldable pub offeredOf : Seen → Causes → ℕ
+offeredOf s c = bitValue (wouldDrop s true false c) 0 + bitValue (wouldDrop s false true c) 1
+
+-- "B past permitted": the shown curve's permitted boundary is reached
+unfoldable pub isOver : Train → Kept → Candidate → Bool
+isOver train kept shown =
+    isReached (shown .curve) (brakingOf train (kept .halka) .level) (kept .speed) (brakingOf train (kept .halka) .leads .permitted)
+
+-- the fields of the shown curve: "shown id (255 none); interval (0 none ..); bar; mode", "No curve: bar and mode 0"
+unfoldable pub shownFields : Bool → Bool → Candidate → List ℕ
+shownFields over insufficient shown =
+    cond (shown .judged .held)
+    (shown .curve .id
+    ∷ numberOf (shownAs shown)
+    ∷ barNumber (barOf (shownAs shown))
+    ∷ modeNumber (modeOf over insufficient (shownAs shown))
+    ∷ [])
+    (255 ∷ 0 ∷ 0 ∷ 0 ∷ [])
+
+-- "causes 2; permitted speed 2; VMAX 2", "High byte first"
+abbrev pub two : ℕ → List ℕ → List ℕ
+two x rest = highByte x ∷ lowByte x ∷ rest
+
+-- the report's fields in their order
+abbrev pub fields : ℕ → ℕ → ℕ → ℕ → ℕ → List ℕ → ℕ → ℕ → List ℕ
+fields state order cause permitted vmax shown messages offered =
+    state ∷ order ∷ two cause (two permitted (two vmax (shown ++ (messages ∷ offered ∷ []))))
+
+-- in DA, by what the curves say and VMAX
+unfoldable pub reportWith : List Judged → ℕ → Candidate → Seen → Stm → List ℕ
+reportWith judged vmax shown seen stm =
+    fields (stateNumber State.DA) (orderNumber (orderOf (stm .train .softly) (stm .brakes .causes)))
+    (causesNumber (stm .brakes .causes)) (permittedSpeed vmax judged) vmax
+    (shownFields (isOver (stm .train) (stm .kept) shown) (isInsufficient (stm .train) (stm .feedback)) shown)
+    (messagesOf (stm .brakes) (stm .feedback))
+    (offeredOf seen (stm .brakes .causes))
+
+unfoldable pub reportInDA : Stm → List ℕ
+reportInDA stm =
+    reportWith (judgedNow (stm .train) (stm .kept) (stm .track .curves)) (vmaxOf (stm .train) (stm .track))
+    (chosen (stm .track .curves) (judgedNow (stm .train) (stm .kept) (stm .track .curves))) (seenIn stm) stm
+
+-- "Outside DA order is 0 (FA: 3), id 255, messages as standing, the rest 0"
+unfoldable pub reportOutside : State → ℕ → Stm → List ℕ
+reportOutside state order stm =
+    fields (stateNumber state) order 0 0 0 (255 ∷ 0 ∷ 0 ∷ 0 ∷ []) (messagesOf (stm .brakes) (stm .feedback)) 0
+
+abbrev pub reportFor : State → Stm → List ℕ
+reportFor State.DE stm = reportOutside State.DE 0 stm
+reportFor State.CS stm = reportOutside State.CS 0 stm
+reportFor State.HS stm = reportOutside State.HS 0 stm
+reportFor State.DA stm = reportInDA stm
+reportFor State.FA stm = reportOutside State.FA 3 stm
+
+unfoldable pub reportOf : Stm → List ℕ
+reportOf stm = reportFor (stm .control .state) stm

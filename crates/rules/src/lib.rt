@@ -1,0 +1,249 @@
+// The rules of the unit (01), for the code to be proved against: its types stand here, its rules in
+// specs/, and the members' points over them in specs/ too, proved in proofs/. Nothing here runs.
+//
+// Speeds v are in cm/s, limits in whole km/h, ground in cm, times in tenths of a second,
+// decelerations in mm/s², pressures in kPa.
+
+// ---- answers and codes
+
+// The answers (01, "Answers"): accepted, again, and the refusals 1 to 13 in their order.
+pub enum Answer {
+    Accepted,
+    Again,
+    WrongArea,
+    NoBytes,
+    NoCode,
+    WrongLength,
+    NotStarted,
+    ZeroNumber,
+    WrongNumber,
+    Failed,
+    OutOfRange,
+    NotAllowed,
+    NoReference,
+    NotHeld,
+    AllHeld,
+}
+
+// The commands (01, "Commands"), in the order of their codes.
+pub enum Code {
+    Start,
+    ChangeState,
+    Odometer,
+    NewCurve,
+    EndCurve,
+    NewSection,
+    EndSection,
+    StopPassed,
+    Proceed,
+    BaliseError,
+}
+
+// ---- the state
+
+pub enum State {
+    DE,
+    CS,
+    HS,
+    DA,
+    FA,
+}
+
+// Whether there has been a start, and the state.
+pub struct Control {
+    pub started: bool,
+    pub state: State,
+}
+
+// The train data of a start. `softly` is flag bit 0, `feed` flag bit 1, `full` and `soft` the
+// decelerations, `margin` the F margin, `emergency` the overspeed emergency margin, `sufficient` the
+// sufficient application, `pressure` P_FULL, `check` T_EBCHK.
+pub struct Train {
+    pub softly: bool,
+    pub feed: pressure::Feed,
+    pub speed: u16,
+    pub length: u16,
+    pub full: u16,
+    pub soft: u16,
+    pub times: curve::Times,
+    pub margin: u8,
+    pub emergency: u8,
+    pub sufficient: u8,
+    pub pressure: u16,
+    pub check: u8,
+}
+
+// A section, or a place that holds none. `ground` is the ground moved since its end was told.
+pub struct Section {
+    pub held: bool,
+    pub id: u8,
+    pub speed: u16,
+    pub ending: bool,
+    pub ground: u32,
+}
+
+// What the track has told: curves, sections, and the 40 of an unexpected stop.
+pub struct Track {
+    pub curves: [curve::Curve; 16],
+    pub sections: [Section; 16],
+    pub forty: bool,
+}
+
+// The causes, in the order of their bits 0 to 11.
+pub enum Cause {
+    Overspeed,
+    EmergencyOverspeed,
+    CurveFull,
+    CurveSoft,
+    CurveEmergency,
+    AimedStop,
+    UnexpectedStop,
+    UnexpectedSpeed,
+    Landslide,
+    BaliseFault,
+    Rolling,
+    ServiceFault,
+}
+
+// Which causes stand.
+pub struct Causes {
+    pub overspeed: bool,
+    pub excess: bool,
+    pub full: bool,
+    pub soft: bool,
+    pub emergency: bool,
+    pub aimed: bool,
+    pub unexpected: bool,
+    pub speed: bool,
+    pub landslide: bool,
+    pub balise: bool,
+    pub rolling: bool,
+    pub service: bool,
+}
+
+// What has been noted since the command that ordered bits 5, 6 and 8: a halt, a measured
+// deceleration, a halt.
+pub struct Since {
+    pub aimed: bool,
+    pub unexpected: bool,
+    pub landslide: bool,
+}
+
+// A brake check: no order to check, the count since the order began, or satisfied or judged.
+pub enum Check {
+    Idle,
+    Counting(u8),
+    Done,
+}
+
+// The ground rolled from standstill with neutral throughout, kept up to 501; ended until the next halt.
+pub enum Roll {
+    Ended,
+    Rolled(u16),
+}
+
+// What brakes. `service` and `emergency` are the checks of bit 11 and of the emergency order,
+// `drift` is DRIFTBROMSFEL, `failed` NÖDBROMSFEL.
+pub struct Brakes {
+    pub causes: Causes,
+    pub since: Since,
+    pub service: Check,
+    pub emergency: Check,
+    pub roll: Roll,
+    pub drift: bool,
+    pub failed: bool,
+}
+
+// What the last odometer report leaves: its speed and buttons.
+pub struct Kept {
+    pub speed: u16,
+    pub loss: bool,
+    pub text: bool,
+    pub halka: bool,
+}
+
+// The last accepted command, with 0 after its end, and the report that it was given.
+pub struct Last {
+    pub bytes: [u8; 24],
+    pub report: [u8; 14],
+}
+
+// The unit's state.
+pub struct Stm {
+    pub control: Control,
+    pub train: Train,
+    pub track: Track,
+    pub brakes: Brakes,
+    pub feedback: pressure::Measured,
+    pub kept: Kept,
+    pub last: Last,
+}
+
+// ---- an odometer report
+
+// The operands of an odometer report: `measured` in mm/s², `external` P_EXT in half kPa.
+pub struct Reading {
+    pub speed: u16,
+    pub moved: u16,
+    pub measured: i16,
+    pub external: i16,
+    pub loss: bool,
+    pub text: bool,
+    pub halka: bool,
+    pub neutral: bool,
+}
+
+// What the table of causes looks at: the speed, VMAX and the emergency margin; whether a curve brakes
+// from D, E or F on; whether the drop is insufficient; HALKA; the notes; over 500 cm rolled.
+pub struct Seen {
+    pub speed: u16,
+    pub vmax: u16,
+    pub margin: u8,
+    pub d: bool,
+    pub e: bool,
+    pub f: bool,
+    pub insufficient: bool,
+    pub halka: bool,
+    pub since: Since,
+    pub rolled: bool,
+}
+
+// ---- what is shown
+
+// The brake orders.
+pub enum Order {
+    Nothing,
+    Soft,
+    Full,
+    Emergency,
+}
+
+// The bars of a shown curve (001, table 4.8-5).
+pub enum Bar {
+    Empty,
+    LightGrey,
+    Yellow,
+}
+
+// The modes of a shown curve (001, table 4.8-5).
+pub enum Mode {
+    Normal,
+    PreIndication,
+    Indication,
+    Warning,
+    Intervention,
+}
+
+// A place with its curve and what the curve says: one that may be shown.
+pub struct Candidate {
+    pub curve: curve::Curve,
+    pub judged: curve::Judged,
+}
+
+// ---- the call
+
+// The outcome of a call: the answer and the next state.
+pub struct Outcome {
+    pub answer: Answer,
+    pub stm: Stm,
+}
