@@ -38,7 +38,7 @@ freshFeedback = record {
 unfoldable pub freshKept : Kept
 freshKept = record { speed = 0; loss = true; text = true; halka = true }
 
--- "the longest command", a start
+-- the bytes of the longest command, a start
 abbrev pub longest : ℕ
 longest = 24
 

@@ -11,3 +11,9 @@ pub mod Reports
 pub mod Commands
 pub mod Refusals
 pub mod Calls
+pub mod Runs
+pub mod Claims
+pub mod Once
+pub mod Braking
+pub mod Units
+pub mod TwoRuns

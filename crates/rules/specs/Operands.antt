@@ -41,29 +41,6 @@ within least most x = leb least x && leb x most
 
 -- ---- 01 start
 
-unfoldable pub startInRange : List ℕ → Bool
-startInRange s =
-    -- "flags 1 (bit 0 .., bit 1 ..; others 0)"
-    leb (byteAt s 0) 3
-    -- "train speed 2, 10–300; length 2, 10–1,000 m"
-    && within 10 300 (twoAt s 1)
-    && within 10 1000 (twoAt s 3)
-    -- "full deceleration 2, 400–2,000; soft deceleration 2, 400 up to full"
-    && within 400 2000 (twoAt s 5)
-    && within 400 (twoAt s 5) (twoAt s 7)
-    -- "T_B 1, 1–100; gaps gC, gP, gBf 1 each, 0–200"
-    && within 1 100 (byteAt s 9)
-    && leb (byteAt s 10) 200
-    && leb (byteAt s 11) 200
-    && leb (byteAt s 12) 200
-    -- "F margin 1, 1–30 km/h; overspeed emergency margin 1, 11–30 km/h"
-    && within 1 30 (byteAt s 13)
-    && within 11 30 (byteAt s 14)
-    -- "sufficient application 1, 30–150 kPa; P_FULL 2, 150–600 kPa; T_EBCHK 1, 1–100"
-    && within 30 150 (byteAt s 15)
-    && within 150 600 (twoAt s 16)
-    && within 1 100 (byteAt s 18)
-
 -- "bit 1 cylinder feedback"
 abbrev pub feedOf : Bool → Feed
 feedOf true = Feed.Cylinder
@@ -85,11 +62,32 @@ trainOf s = record {
   check = byteAt s 18;
 }
 
--- ---- 10 odometer
+unfoldable pub trainInRange : Train → Bool
+trainInRange train =
+    -- "train speed 2, 10–300; length 2, 10–1,000 m"
+    within 10 300 (train .speed)
+    && within 10 1000 (train .length)
+    -- "full deceleration 2, 400–2,000; soft deceleration 2, 400 up to full"
+    && within 400 2000 (train .full)
+    && within 400 (train .full) (train .soft)
+    -- "T_B 1, 1–100; gaps gC, gP, gBf 1 each, 0–200"
+    && within 1 100 (train .times .brake)
+    && leb (train .times .c) 200
+    && leb (train .times .permitted) 200
+    && leb (train .times .bf) 200
+    -- "F margin 1, 1–30 km/h; overspeed emergency margin 1, 11–30 km/h"
+    && within 1 30 (train .margin)
+    && within 11 30 (train .emergency)
+    -- "sufficient application 1, 30–150 kPa; P_FULL 2, 150–600 kPa; T_EBCHK 1, 1–100"
+    && within 30 150 (train .sufficient)
+    && within 150 600 (train .pressure)
+    && within 1 100 (train .check)
 
--- "speed 2, 0–10,000; moved 2, 0–1,200 cm; .. buttons 1 (.. others 0)"; the two signed operands have no range
-unfoldable pub odometerInRange : List ℕ → Bool
-odometerInRange s = leb (twoAt s 0) 10000 && leb (twoAt s 2) 1200 && leb (byteAt s 8) 15
+-- "flags 1 (bit 0 .., bit 1 ..; others 0)", and the figures
+unfoldable pub startInRange : List ℕ → Bool
+startInRange s = leb (byteAt s 0) 3 && trainInRange (trainOf s)
+
+-- ---- 10 odometer
 
 -- "buttons 1 (bit 0 LOSS, 1 text, 2 HALKA, 3 neutral ..)"
 unfoldable pub readingOf : List ℕ → Reading
@@ -103,6 +101,10 @@ readingOf s = record {
   halka = bitOf 2 (byteAt s 8);
   neutral = bitOf 3 (byteAt s 8);
 }
+
+-- "speed 2, 0–10,000; moved 2, 0–1,200 cm; .. buttons 1 (.. others 0)"; the two signed operands have no range
+unfoldable pub odometerInRange : List ℕ → Bool
+odometerInRange s = leb (twoAt s 0) 10000 && leb (twoAt s 2) 1200 && leb (byteAt s 8) 15
 
 -- ---- 20 curve
 
@@ -123,16 +125,6 @@ gradientFrom (negsuc n) = record { direction = Direction.Down; size = suc n }
 abbrev pub gradientOf : ℕ → Gradient
 gradientOf byte = gradientFrom (signed 256 byte)
 
-unfoldable pub curveInRange : List ℕ → Bool
-curveInRange s =
-    -- "id 1, 0–254; kind 1 (0 .., 1 ..); distance 2, 0–10,000 m"
-    leb (byteAt s 0) 254
-    && leb (byteAt s 1) 1
-    && leb (twoAt s 2) 10000
-    && speedInRange (kindOf (byteAt s 1)) (twoAt s 4)
-    -- "−30–30 ‰"
-    && leb (gradientOf (byteAt s 6) .size) 30
-
 -- the curve, its distance in cm
 unfoldable pub curveOf : List ℕ → Curve
 curveOf s = record {
@@ -145,14 +137,27 @@ curveOf s = record {
   past = false;
 }
 
--- ---- 22 section
+unfoldable pub curveInRange : Curve → Bool
+curveInRange curve =
+    -- "id 1, 0–254; .. distance 2, 0–10,000 m"
+    leb (curve .id) 254
+    && leb (curve .distance) 1000000
+    && speedInRange (curve .kind) (curve .speed)
+    -- "gradient 1, signed, −30–30 ‰"
+    && leb (curve .gradient .size) 30
 
--- "id 1, 0–254; speed 2, 10–300"
-unfoldable pub sectionInRange : List ℕ → Bool
-sectionInRange s = leb (byteAt s 0) 254 && within 10 300 (twoAt s 1)
+-- "kind 1 (0 .., 1 ..)", and the figures
+unfoldable pub newCurveInRange : List ℕ → Bool
+newCurveInRange s = leb (byteAt s 1) 1 && curveInRange (curveOf s)
+
+-- ---- 22 section
 
 unfoldable pub sectionOf : List ℕ → Section
 sectionOf s = record { held = true; id = byteAt s 0; speed = twoAt s 1; ending = false; ground = 0 }
+
+-- "id 1, 0–254; speed 2, 10–300"
+unfoldable pub sectionInRange : Section → Bool
+sectionInRange section = leb (section .id) 254 && within 10 300 (section .speed)
 
 -- ---- all commands
 
@@ -161,9 +166,9 @@ abbrev pub inRange : Code → List ℕ → Bool
 inRange Code.Start s = startInRange s
 inRange Code.ChangeState s = leb (byteAt s 0) 4
 inRange Code.Odometer s = odometerInRange s
-inRange Code.NewCurve s = curveInRange s
+inRange Code.NewCurve s = newCurveInRange s
 inRange Code.EndCurve s = leb (byteAt s 0) 254
-inRange Code.NewSection s = sectionInRange s
+inRange Code.NewSection s = sectionInRange (sectionOf s)
 inRange Code.EndSection s = leb (byteAt s 0) 254
 inRange Code.StopPassed s = leb (byteAt s 0) 2
 inRange Code.Proceed s = true

@@ -1,0 +1,125 @@
+-- What is called a unit (01, "The buyer's note"): "any state with its commands' figures in range, distances, sums and counts as
+-- commands can leave them, no curve id and no section id held twice and, in DA, a reference pressure".
+use mathlib.Core.Path.{_≡_}
+use Prim.Native.Nat.{ℕ, _*_, _≤_, _<_}
+use mathlib.Core.Bool.{Bool, true, false, cond, not, _&&_, _||_}
+use mathlib.Core.List.{List, [], _∷_}
+use lib.Dec.{eqb, leb, ltb}
+use lib.IntN.{ℤ}
+use lib.ListN.{length}
+use Rattle.wire.specs.Form.{reportLength}
+use Rattle.pressure.specs.declared.Measured.{Measured}
+use Rattle.pressure.specs.Exact.{SixteenBits}
+use Rattle.pressure.specs.Phases.{isSet}
+use Rattle.pressure.specs.Report.{reported}
+use Rattle.pressure.specs.Claims.{Each}
+use Rattle.curve.specs.declared.Curve.{Curve}
+use Rattle.rules.specs.Numbers.{isState}
+use Rattle.rules.specs.Operands.{trainInRange, curveInRange, sectionInRange}
+use Rattle.rules.specs.Places.{places, allOf, isCurve, isSection}
+use Rattle.rules.specs.Table.{anyStands, standsWith}
+use Rattle.rules.specs.Commands.{longest, freshFeedback, freshStm}
+use Rattle.rules.specs.Runs.{Sent, stateAfter, stateAtEnd}
+use Rattle.rules.specs.declared.State.{State}
+use Rattle.rules.specs.declared.Order.{Order}
+use Rattle.rules.specs.declared.Check.{Check}
+use Rattle.rules.specs.declared.Roll.{Roll}
+use Rattle.rules.specs.declared.Section.{Section}
+use Rattle.rules.specs.declared.Stm.{Stm}
+use Rattle.rules.specs.declared.Train.{Train}
+
+-- ---- figures in range
+
+-- a place is free, or its curve's figures are in range; its d lies below the distance given, which was in range too
+abbrev pub isCurveSound : Curve → Bool
+isCurveSound curve = not (curve .held) || curveInRange curve
+
+-- a place is free, or its section's figures are in range and its ground is as reports leave it: 0 while the section stands, and
+-- below the train's length while it ends
+abbrev pub isGroundSound : ℕ → Section → Bool
+isGroundSound length section = cond (section .ending) (ltb (section .ground) (100 * length)) (eqb (section .ground) 0)
+
+abbrev pub isSectionSound : ℕ → Section → Bool
+isSectionSound length section = not (section .held) || sectionInRange section && isGroundSound length section
+
+-- ---- no id twice
+
+-- no later place holds what this one holds
+unfoldable pub curvesDiffer : List Curve → Bool
+curvesDiffer [] = true
+curvesDiffer (curve ∷ curves) =
+    (not (curve .held) || allOf (λ other. not (isCurve (curve .id) other)) curves) && curvesDiffer curves
+
+unfoldable pub sectionsDiffer : List Section → Bool
+sectionsDiffer [] = true
+sectionsDiffer (section ∷ sections) =
+    (not (section .held) || allOf (λ other. not (isSection (section .id) other)) sections) && sectionsDiffer sections
+
+-- ---- counts
+
+-- a check is idle exactly while its order does not stand, and its count is below its limit
+abbrev pub isCheckSound : Bool → ℕ → Check → Bool
+isCheckSound ordered limit Check.Idle = not ordered
+isCheckSound ordered limit (Check.Counting count) = ordered && ltb count limit
+isCheckSound ordered limit Check.Done = ordered
+
+-- the rolled ground is kept up to 501
+abbrev pub isRollSound : Roll → Bool
+isRollSound Roll.Ended = true
+isRollSound (Roll.Rolled ground) = leb ground 501
+
+-- ---- feedback
+
+-- the feedback after readings P_EXT
+unfoldable pub feedbackAfter : Train → Measured → List ℤ → Measured
+feedbackAfter train feedback [] = feedback
+feedbackAfter train feedback (x ∷ xs) =
+    feedbackAfter train (reported (feedback .phase) (train .feed) (train .pressure) x) xs
+
+-- some readings have led to it
+pub record Reached (train : Train) (feedback : Measured) : Type 0 where
+  pub readings : List ℤ
+  pub width : Each SixteenBits readings
+  pub led : feedback ≡ feedbackAfter train freshFeedback readings
+
+-- ---- a unit
+
+pub record IsUnit (stm : Stm) : Type 0 where
+  -- the places
+  pub curvePlaces : length (stm .track .curves) ≡ places
+  pub sectionPlaces : length (stm .track .sections) ≡ places
+  -- "figures in range", "distances, sums .. as commands can leave them"
+  pub train : stm .control .started ≡ true → trainInRange (stm .train) ≡ true
+  pub curves : allOf isCurveSound (stm .track .curves) ≡ true
+  pub sections : allOf (isSectionSound (stm .train .length)) (stm .track .sections) ≡ true
+  pub speed : leb (stm .kept .speed) 10000 ≡ true
+  pub feedback : Reached (stm .train) (stm .feedback)
+  -- "counts as commands can leave them"
+  pub service : isCheckSound (anyStands (stm .brakes .causes)) (stm .train .times .brake) (stm .brakes .service) ≡ true
+  pub emergency :
+    isCheckSound (standsWith Order.Emergency (stm .brakes .causes)) (stm .train .check) (stm .brakes .emergency) ≡ true
+  pub roll : isRollSound (stm .brakes .roll) ≡ true
+  -- a cause stands, and a brake fault is shown, only where brakes are ordered: in DA, and kept in FA
+  pub braking : anyStands (stm .brakes .causes) ≡ true → (isState State.DA (stm .control .state) || isState State.FA (stm .control .state)) ≡ true
+  pub drift : stm .brakes .drift ≡ true → anyStands (stm .brakes .causes) ≡ true
+  pub failed : stm .brakes .failed ≡ true → isState State.FA (stm .control .state) ≡ true
+  -- "no curve id and no section id held twice"
+  pub curveIds : curvesDiffer (stm .track .curves) ≡ true
+  pub sectionIds : sectionsDiffer (stm .track .sections) ≡ true
+  -- "in DA, a reference pressure"
+  pub reference : isState State.DA (stm .control .state) ≡ true → isSet (stm .feedback .phase) ≡ true
+  -- the last command and its report
+  pub lastBytes : length (stm .last .bytes) ≡ longest
+  pub lastReport : length (stm .last .report) ≡ reportLength
+
+-- the state before any start is one,
+abbrev pub FreshIsUnit : Type 0
+FreshIsUnit = IsUnit freshStm
+
+-- every call keeps it,
+abbrev pub CallKeepsUnit : Type 0
+CallKeepsUnit = (stm : Stm) (x : Sent) → IsUnit stm → IsUnit (stateAfter stm x)
+
+-- so that point 3 covers every state that a host can come to
+abbrev pub EveryRunIsUnit : Type 0
+EveryRunIsUnit = (xs : List Sent) → IsUnit (stateAtEnd freshStm xs)
