@@ -5,6 +5,7 @@ use mathlib.Core.Bool.{Bool, true, false, cond, not, _&&_, _||_, false≢true}
 use mathlib.Core.List.{List, [], _∷_}
 use lib.Dec.{eqb}
 use lib.ListN.{length}
+use borrow.Author.Tests.{not-false}
 use Rattle.wire.specs.declared.form.Form.{Form}
 use Rattle.wire.specs.Form.{formOf}
 use Rattle.pressure.specs.Phases.{isSet}
@@ -76,10 +77,6 @@ alive-told false false repeat r e = refl
 alive-told true false true r e = absurd (false≢true (sym r))
 alive-told true false false r e = absurd (false≢true (sym e))
 
-holds : (a : Bool) → not a ≡ false → a ≡ true
-holds true e = refl
-holds false e = absurd (false≢true (sym e))
-
 passed-of : (stm : Stm) (command : List ℕ)
     → isAccepted (firstOf (rulesFor stm command (codeOf (codeByte command)) (operandsOf command))) ≡ true → Passed stm command
 unfolding rulesFor
@@ -100,8 +97,8 @@ passed-of stm command e =
       fresh = t .4;
       next = next-told start repeat next (t .4) (t .2);
       alive = alive-told failed start repeat (t .4) (t .3);
-      range = holds (inRange code s) (t .5);
-      allowed = holds (isAllowed (stm .control .state) code s) (t .6);
+      range = not-false (inRange code s) (t .5);
+      allowed = not-false (isAllowed (stm .control .state) code s) (t .6);
       reference = t .7;
       ends = t .8;
       place = t .9;

@@ -1,2 +1,15 @@
+pub mod Tests
 pub mod Answers
 pub mod Once
+pub mod Ordering
+pub mod Standing
+pub mod Parts
+pub mod Monotone
+pub mod Tracks
+pub mod Limits
+pub mod Causing
+pub mod Steady
+pub mod Written
+pub mod Repeats
+pub mod Faster
+pub mod Compare

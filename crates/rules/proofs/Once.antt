@@ -1,7 +1,7 @@
 -- What an answer other than 0 leaves, and that no number is accepted twice (specs/Once.antt). Assumes nothing.
 use mathlib.Core.Path.{_≡_, refl, sym, ap, subst, _∙_}
 use Prim.Native.Nat.{ℕ, _+_, _<_, _≤_}
-use mathlib.Core.Bool.{Bool, true, false, cond, not, _&&_, _||_, false≢true}
+use mathlib.Core.Bool.{Bool, true, false, cond, not, _&&_, _||_, false≢true, or-false, and-false}
 use mathlib.Core.List.{List, [], _∷_, _++_}
 use native.Mathlib.Omega.{arith}
 use lib.Dec.{eqb}
@@ -27,26 +27,11 @@ use Rattle.rules.specs.declared.Reading.{Reading}
 use Rattle.rules.specs.declared.State.{State}
 use Rattle.rules.specs.declared.Stm.{Stm}
 use Rattle.laws.proofs.Lists.{never}
+use Rattle.rules.proofs.Tests.{both, neither}
 use Rattle.rules.proofs.Answers.{Passed, passed, after-accepted, after-other}
 
 pub state-changes-at-zero-only : StateChangesAtZeroOnly
 state-changes-at-zero-only stm x e = after-other stm x e
-
-or-false : (a : Bool) → (a || false) ≡ true → a ≡ true
-or-false true e = refl
-or-false false e = e
-
-and-false : (a : Bool) → (a && false) ≡ false
-and-false true = refl
-and-false false = refl
-
-both-true : (a b : Bool) → (a && b) ≡ true → (a ≡ true) × (b ≡ true)
-both-true true b e = (refl, e)
-both-true false b e = absurd (false≢true e)
-
-first-false : (a b : Bool) → (a || b) ≡ false → a ≡ false
-first-false true b e = e
-first-false false b e = refl
 
 -- ---- the area
 
@@ -123,15 +108,15 @@ carried-started : (code : Code) (s : List ℕ) (stm : Stm) → (stm .control .st
     → carriedOut code s stm .control .started ≡ true
 unfolding freshWith stopped
 carried-started Code.Start s stm e = refl
-carried-started Code.ChangeState s stm e = entered-started (stateOf (byteAt s 0)) stm ∙ or-false _ e
-carried-started Code.Odometer s stm e = reported-started (stm .control .state) (readingOf s) stm ∙ or-false _ e
-carried-started Code.NewCurve s stm e = or-false _ e
-carried-started Code.EndCurve s stm e = or-false _ e
-carried-started Code.NewSection s stm e = or-false _ e
-carried-started Code.EndSection s stm e = or-false _ e
-carried-started Code.StopPassed s stm e = or-false _ e
-carried-started Code.Proceed s stm e = or-false _ e
-carried-started Code.BaliseError s stm e = or-false _ e
+carried-started Code.ChangeState s stm e = entered-started (stateOf (byteAt s 0)) stm ∙ sym (or-false (stm .control .started)) ∙ e
+carried-started Code.Odometer s stm e = reported-started (stm .control .state) (readingOf s) stm ∙ sym (or-false (stm .control .started)) ∙ e
+carried-started Code.NewCurve s stm e = sym (or-false (stm .control .started)) ∙ e
+carried-started Code.EndCurve s stm e = sym (or-false (stm .control .started)) ∙ e
+carried-started Code.NewSection s stm e = sym (or-false (stm .control .started)) ∙ e
+carried-started Code.EndSection s stm e = sym (or-false (stm .control .started)) ∙ e
+carried-started Code.StopPassed s stm e = sym (or-false (stm .control .started)) ∙ e
+carried-started Code.Proceed s stm e = sym (or-false (stm .control .started)) ∙ e
+carried-started Code.BaliseError s stm e = sym (or-false (stm .control .started)) ∙ e
 
 accepted-started : (stm : Stm) (command : List ℕ) → Passed stm command → acceptedOf command stm .control .started ≡ true
 unfolding acceptedOf remembered
@@ -217,7 +202,7 @@ pub numbers-follow : NumbersFollow
 unfolding acceptedNumbers noneAccepted
 numbers-follow stm [] e = tt
 numbers-follow stm (x ∷ xs) e =
-    let p = both-true (not (isAccepted (answerTo stm x) && isStart (x .command))) _ e in
+    let p = both (not (isAccepted (answerTo stm x) && isStart (x .command))) _ e in
     follow-step stm x (acceptedNumbers (stateAfter stm x) xs) (isAccepted (answerTo stm x)) refl (p .0)
     (numbers-follow (stateAfter stm x) xs (p .1))
 
@@ -253,7 +238,7 @@ none-accepted-twice stm xs before between after n starts e =
 
 -- what is left out finds and leaves the same state
 left-out : (mark : Bool) (stm : Stm) (x : Sent) → isLeft mark stm x ≡ false → stateAfter stm x ≡ stm
-left-out mark stm x e = after-other stm x (first-false (isAccepted (answerTo stm x)) (not mark) e)
+left-out mark stm x e = after-other stm x (neither (isAccepted (answerTo stm x)) (not mark) e .0)
 
 -- one command before a run
 left-moments : (left : Bool) (stm : Stm) (x : Sent) (xs : List Sent) (ms : List Moment)

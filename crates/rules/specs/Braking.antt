@@ -1,8 +1,9 @@
 -- Members' point 2: "A brake is ordered where the rules order it and nowhere else, and released likewise." Proved in proofs/.
 use mathlib.Core.Path.{_≡_}
 use Prim.Native.Nat.{ℕ, _≤_}
-use mathlib.Core.Bool.{Bool, true, false, not, _&&_, _||_}
+use mathlib.Core.Bool.{Bool, true, false, cond, not, _&&_, _||_}
 use mathlib.Core.List.{List}
+use lib.Dec.{eqb}
 use Rattle.wire.specs.Numbers.{byteAt}
 use Rattle.rules.specs.Numbers.{codeOf, bitNumber, isState}
 use Rattle.rules.specs.Operands.{codeByte, operandsOf, readingOf}
@@ -48,18 +49,8 @@ releasableNow stm command cause =
 
 -- "A fresh press": the button of a cause, text for bit 10 and LOSS for every other, is pressed now and was not at the last report
 abbrev pub freshlyPressed : Stm → Reading → Cause → Bool
-freshlyPressed stm r Cause.Rolling = r .text && not (stm .kept .text)
-freshlyPressed stm r Cause.Overspeed = r .loss && not (stm .kept .loss)
-freshlyPressed stm r Cause.EmergencyOverspeed = r .loss && not (stm .kept .loss)
-freshlyPressed stm r Cause.CurveFull = r .loss && not (stm .kept .loss)
-freshlyPressed stm r Cause.CurveSoft = r .loss && not (stm .kept .loss)
-freshlyPressed stm r Cause.CurveEmergency = r .loss && not (stm .kept .loss)
-freshlyPressed stm r Cause.AimedStop = r .loss && not (stm .kept .loss)
-freshlyPressed stm r Cause.UnexpectedStop = r .loss && not (stm .kept .loss)
-freshlyPressed stm r Cause.UnexpectedSpeed = r .loss && not (stm .kept .loss)
-freshlyPressed stm r Cause.Landslide = r .loss && not (stm .kept .loss)
-freshlyPressed stm r Cause.BaliseFault = r .loss && not (stm .kept .loss)
-freshlyPressed stm r Cause.ServiceFault = r .loss && not (stm .kept .loss)
+freshlyPressed stm r cause =
+    cond (eqb (bitNumber cause) 10) (r .text && not (stm .kept .text)) (r .loss && not (stm .kept .loss))
 
 -- ---- one command
 

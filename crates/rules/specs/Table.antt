@@ -3,7 +3,7 @@ use Prim.Native.Nat.{ℕ, _+_, _*_}
 use mathlib.Core.Bool.{Bool, true, false, cond, not, _&&_, _||_}
 use mathlib.Core.List.{List, [], _∷_}
 use lib.Dec.{eqb, leb, ltb}
-use Rattle.rules.specs.Numbers.{isCode, isOrder}
+use Rattle.rules.specs.Numbers.{bitNumber, isCode, isOrder}
 use Rattle.rules.specs.Places.{anyOf, allOf}
 use Rattle.rules.specs.declared.Code.{Code}
 use Rattle.rules.specs.declared.Cause.{Cause}
@@ -172,18 +172,7 @@ addedCauses ordered c = causesFor (λ cause. stands c cause || ordered cause)
 
 -- "A fresh press of LOSS drops every releasable cause but 10; a fresh press of text drops 10"
 abbrev pub pressedFor : Bool → Bool → Cause → Bool
-pressedFor loss text Cause.Overspeed = loss
-pressedFor loss text Cause.EmergencyOverspeed = loss
-pressedFor loss text Cause.CurveFull = loss
-pressedFor loss text Cause.CurveSoft = loss
-pressedFor loss text Cause.CurveEmergency = loss
-pressedFor loss text Cause.AimedStop = loss
-pressedFor loss text Cause.UnexpectedStop = loss
-pressedFor loss text Cause.UnexpectedSpeed = loss
-pressedFor loss text Cause.Landslide = loss
-pressedFor loss text Cause.BaliseFault = loss
-pressedFor loss text Cause.Rolling = text
-pressedFor loss text Cause.ServiceFault = loss
+pressedFor loss text cause = cond (eqb (bitNumber cause) 10) text loss
 
 -- a press drops a cause
 unfoldable pub isDropped : Seen → Bool → Bool → Causes → Cause → Bool

@@ -1,0 +1,171 @@
+-- Two tracks, of which the second is the stricter by id: a report keeps that. Assumes nothing.
+use Prim.Native.Nat.{ℕ}
+use mathlib.Core.Path.{_≡_, refl, sym, _∙_, ap, ap₂, subst₂}
+use mathlib.Core.Bool.{Bool, true, false, _&&_, false≢true, and-eq-true-iff}
+use mathlib.Core.List.{List, [], _∷_, map, zipWith, Memᴰ·cast, Memᴰ·map, Memᴰ·of-map}
+use native.Mathlib.Omega.{arith}
+use lib.Dec.{eqb}
+use borrow.Author.Tests.{eq-eqb, eqb-true}
+use Rattle.curve.specs.declared.Curve.{Curve}
+use Rattle.curve.specs.declared.Braking.{Braking}
+use Rattle.curve.specs.Judging.{movedBy, judgedOf, notedAt}
+use Rattle.curve.specs.Places.{judgedAll, notedAll}
+use Rattle.curve.specs.Claims.{Stricter}
+use Rattle.rules.specs.Places.{isCurve, holdsCurve, movedSection, movedTrack}
+use Rattle.rules.specs.Speeds.{brakingOf, judgedNow}
+use Rattle.rules.specs.Steps.{notedTrack}
+use Rattle.rules.specs.TwoRuns.{Holds, HoldsSection, TracksCompared}
+use Rattle.rules.specs.declared.Train.{Train}
+use Rattle.rules.specs.declared.Section.{Section}
+use Rattle.rules.specs.declared.Track.{Track}
+use Rattle.rules.specs.declared.Kept.{Kept}
+use Rattle.rules.proofs.Monotone.{any-in, any-from}
+
+-- ---- the two tracks
+
+-- each held curve of the first has a held one of its id in the second, and of two held ones with one id the second is stricter
+pub record CurvesBelow (curves curves′ : List Curve) : Type 0 where
+  pub partner : (curve : Curve) → Holds curves curve → (curve′ : Curve) × Holds curves′ curve′ × (curve′ .id ≡ curve .id)
+  pub stricter :
+    (curve curve′ : Curve) → Holds curves curve → Holds curves′ curve′ → curve′ .id ≡ curve .id → Stricter curve curve′
+
+-- each held section of the first is held just so by the second
+abbrev pub SectionsBelow : List Section → List Section → Type 0
+SectionsBelow sections sections′ = (section : Section) → HoldsSection sections section → HoldsSection sections′ section
+
+pub record TracksBelow (track track′ : Track) : Type 0 where
+  pub curves : CurvesBelow (track .curves) (track′ .curves)
+  pub sections : SectionsBelow (track .sections) (track′ .sections)
+  pub forty : track′ .forty ≡ track .forty
+
+-- ---- at the beginning
+
+id-held : {curves : List Curve} {curve : Curve} → Holds curves curve → holdsCurve (curve .id) curves ≡ true
+id-held {curves} {curve} holds =
+    any-in (isCurve (curve .id)) curves (holds .place) (ap₂ _&&_ (holds .held) (eq-eqb (curve .id) (curve .id) refl))
+
+held-id : (id : ℕ) (curves : List Curve) → holdsCurve id curves ≡ true → (curve : Curve) × Holds curves curve × (curve .id ≡ id)
+held-id id curves e =
+    let (curve, place, t) = any-from (isCurve id) curves e in
+    let (held, same) = and-eq-true-iff (curve .held) (eqb (curve .id) id) .0 t in
+    (curve, record { place = place; held = held }, eqb-true (curve .id) id same)
+
+pub tracks-at-first : {track track′ : Track} → TracksCompared track track′ → TracksBelow track track′
+tracks-at-first {track′ = track′} compared = record {
+  curves = record {
+    partner = λ curve holds. held-id (curve .id) (track′ .curves) (compared .ids (curve .id) (id-held holds));
+    stricter = compared .curves;
+  };
+  sections = compared .sections;
+  forty = compared .forty;
+}
+
+-- ---- curves changed
+
+-- a change of a curve that leaves its place and its id
+record Keeps (change : Curve → Curve) : Type 0 where
+  held : (curve : Curve) → change curve .held ≡ curve .held
+  id : (curve : Curve) → change curve .id ≡ curve .id
+
+module _ {change : Curve → Curve} (keeps : Keeps change) where
+  held-changed : {curves : List Curve} {curve : Curve} → Holds curves curve → Holds (map change curves) (change curve)
+  held-changed {curve = curve} holds =
+      record { place = Memᴰ·map change (holds .place); held = keeps .held curve ∙ holds .held }
+
+  -- what a held curve was before the change
+  held-before : (curves : List Curve) {curve : Curve} → Holds (map change curves) curve
+      → (before : Curve) × Holds curves before × (change before ≡ curve) × (before .id ≡ curve .id)
+  held-before curves holds =
+      let (before, place, e) = Memᴰ·of-map change curves (holds .place) in
+      (before,
+      record { place = place; held = sym (keeps .held before) ∙ ap (λ curve. curve .held) e ∙ holds .held },
+      e,
+      sym (keeps .id before) ∙ ap (λ curve. curve .id) e)
+
+curves-changed : {change change′ : Curve → Curve} → Keeps change → Keeps change′
+    → ((curve curve′ : Curve) → Stricter curve curve′ → Stricter (change curve) (change′ curve′))
+    → {curves curves′ : List Curve} → CurvesBelow curves curves′ → CurvesBelow (map change curves) (map change′ curves′)
+curves-changed {change′ = change′} keeps keeps′ h {curves} {curves′} below = record {
+  partner = λ curve holds.
+    let (before, was, e, id) = held-before keeps curves holds in
+    let (before′, was′, same) = below .partner before was in
+    (change′ before′, held-changed keeps′ was′, keeps′ .id before′ ∙ same ∙ id);
+  stricter = λ curve curve′ holds holds′ same.
+    let (before, was, e, id) = held-before keeps curves holds in
+    let (before′, was′, e′, id′) = held-before keeps′ curves′ holds′ in
+    subst₂ Stricter e e′ (h before before′ (below .stricter before before′ was was′ (id′ ∙ same ∙ sym id)));
+}
+
+-- ---- ground moved
+
+moved-keeps : (moved : ℕ) → Keeps (λ curve. movedBy curve moved)
+moved-keeps moved = record { held = λ curve. refl; id = λ curve. refl }
+
+moved-stricter : (moved : ℕ) (curve curve′ : Curve)
+    → Stricter curve curve′ → Stricter (movedBy curve moved) (movedBy curve′ moved)
+moved-stricter moved curve curve′ stricter = record {
+  kind = stricter .kind;
+  gradient = stricter .gradient;
+  distance = omega (arith, stricter .distance);
+  speed = stricter .speed;
+}
+
+-- a section is held only where it was held before
+moved-held : (length moved : ℕ) (section : Section) → movedSection length moved section .held ≡ true → section .held ≡ true
+unfolding movedSection
+moved-held length moved section = by (section .held) refl
+  where
+    by : (t : Bool) → section .held ≡ t → movedSection length moved section .held ≡ true → section .held ≡ true
+    by true e h = e
+    by false e h = absurd (false≢true (rw e at h))
+
+sections-moved : (length moved : ℕ) {sections sections′ : List Section} → SectionsBelow sections sections′
+    → SectionsBelow (map (movedSection length moved) sections) (map (movedSection length moved) sections′)
+sections-moved length moved {sections} {sections′} below section holds =
+    let (before, place, e) = Memᴰ·of-map (movedSection length moved) sections (holds .place) in
+    let was = moved-held length moved before (ap (λ s. s .held) e ∙ holds .held) in
+    let holds′ : HoldsSection sections′ before = below before (record { place = place; held = was }) in
+    record { place = Memᴰ·cast (sym e) (Memᴰ·map (movedSection length moved) (holds′ .place)); held = holds .held }
+
+pub tracks-moved : (length moved : ℕ) {track track′ : Track} → TracksBelow track track′
+    → TracksBelow (movedTrack length moved track) (movedTrack length moved track′)
+unfolding movedTrack
+tracks-moved length moved below = record {
+  curves = curves-changed (moved-keeps moved) (moved-keeps moved) (moved-stricter moved) (below .curves);
+  sections = sections-moved length moved (below .sections);
+  forty = below .forty;
+}
+
+-- ---- past in B noted
+
+abbrev noted : Braking → ℕ → Curve → Curve
+noted braking v curve = notedAt curve (judgedOf braking v curve .interval)
+
+noted-is : (braking : Braking) (v : ℕ) (curves : List Curve)
+    → notedAll curves (judgedAll braking v curves) ≡ map (noted braking v) curves
+unfolding zipWith
+noted-is braking v [] = refl
+noted-is braking v (curve ∷ curves) = ap (noted braking v curve ∷_) (noted-is braking v curves)
+
+noted-keeps : (braking : Braking) (v : ℕ) → Keeps (noted braking v)
+noted-keeps braking v = record { held = λ curve. refl; id = λ curve. refl }
+
+noted-stricter : (braking braking′ : Braking) (v v′ : ℕ) (curve curve′ : Curve)
+    → Stricter curve curve′ → Stricter (noted braking v curve) (noted braking′ v′ curve′)
+noted-stricter braking braking′ v v′ curve curve′ stricter =
+    record { kind = stricter .kind; gradient = stricter .gradient; distance = stricter .distance; speed = stricter .speed }
+
+pub tracks-noted : (train train′ : Train) (kept kept′ : Kept) {track track′ : Track} → TracksBelow track track′
+    → TracksBelow (notedTrack train kept track) (notedTrack train′ kept′ track′)
+unfolding notedTrack judgedNow
+tracks-noted train train′ kept kept′ {track} {track′} below =
+    let braking = brakingOf train (kept .halka) in
+    let braking′ = brakingOf train′ (kept′ .halka) in
+    record {
+      curves =
+        rw (noted-is braking (kept .speed) (track .curves), noted-is braking′ (kept′ .speed) (track′ .curves))
+        (curves-changed (noted-keeps braking (kept .speed)) (noted-keeps braking′ (kept′ .speed))
+        (noted-stricter braking braking′ (kept .speed) (kept′ .speed)) (below .curves));
+      sections = below .sections;
+      forty = below .forty;
+    }
