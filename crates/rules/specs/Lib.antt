@@ -17,3 +17,5 @@ pub mod Once
 pub mod Braking
 pub mod Units
 pub mod TwoRuns
+pub mod Figures
+pub mod Pairs

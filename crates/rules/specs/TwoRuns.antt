@@ -164,8 +164,10 @@ ClaimGiven units refusals service emergency gear stops =
     → Presumed stops (UnexpectedStopAlike u w)
     → Both Claimed (moments u xs) (moments w ys)
 
--- point 3, whole. The proof needs no figure in range, no count as commands leave it and no id held once: it holds of any two states
--- compared, and so of any two units
+-- point 3, whole. It holds of any two states compared, and so of any two units. Not needed by the proof, though presumed in the words:
+-- that the two are units; that neither has a brake fault before the first report, nor the second bit 11 at all; where an unexpected
+-- stop brakes, equal soft decelerations, and anything of bit 7. Nor is it needed that past in B, the last command's code, the rolled
+-- ground, the checks, the messages and T_EBCHK are equal
 abbrev pub TwoRuns : Type 0
 TwoRuns = ClaimGiven false true true true true true
 

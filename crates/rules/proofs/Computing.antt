@@ -1,0 +1,84 @@
+-- `computing` on an `unfolding` line opens every definition that a call goes through, so that a closed run computes.
+use mathlib.Core.List.{zipWith}
+use lib.Ieee.{ofInt, add, sub, mul, div, lt, le}
+use Rattle.wire.specs.Codes.{commands, lengthIn, lengthOf}
+use Rattle.wire.specs.Form.{codeForm, formOf}
+use Rattle.wire.specs.Numbers.{number, signed}
+use Rattle.wire.specs.Bytes.{sameBytes}
+use Rattle.pressure.specs.Convert.{halvedOf, isLow, isHigh, sensorFault, limitedOf}
+use Rattle.pressure.specs.Convert.{countedOf, cylinderOf, convertedOf, pressureOf}
+use Rattle.pressure.specs.Reference.{isSinking, changedReference, dropOf}
+use Rattle.pressure.specs.Phases.{referenceOf, isNormal, waitedOf, isFar, settledOf, setOf, nextOf}
+use Rattle.pressure.specs.Report.{pressureAt, phaseAfter, reported}
+use Rattle.curve.specs.Deceleration.{levelOf, decelerationOf}
+use Rattle.curve.specs.Lead.{leadsOf}
+use Rattle.curve.specs.Boundary.{targetOf, isAbove, leftSide, rightSide, line, lineFor, isReached, isReachedF, isReachedAtKmh}
+use Rattle.curve.specs.Intervals.{intervalOf, shownOf}
+use Rattle.curve.specs.Permitted.{largestFailing, permittedOf}
+use Rattle.curve.specs.Judging.{isFast, brakesAt, judgedOf}
+use Rattle.curve.specs.Places.{leastPermitted, anyBrakes}
+use Rattle.rules.specs.Numbers.{codeOf, stateOf}
+use Rattle.rules.specs.Operands.{trainOf, trainInRange, startInRange, readingOf, odometerInRange}
+use Rattle.rules.specs.Operands.{curveOf, curveInRange, newCurveInRange, sectionOf, sectionInRange}
+use Rattle.rules.specs.Places.{anyOf, allOf, freshTrack, placedCurve, givenCurve, endedCurve}
+use Rattle.rules.specs.Places.{placedSection, givenSection, endedSection, movedSection, movedTrack}
+use Rattle.rules.specs.Speeds.{brakingOf, judgedNow, vmaxOf, permittedSpeed}
+use Rattle.rules.specs.Table.{noCauses, curveOrders, standsWith, anyStands, orderOf, isSlow}
+use Rattle.rules.specs.Table.{othersReleasable, isReleasable, addedCauses, isDropped, leftCauses}
+use Rattle.rules.specs.Checks.{isDrop, checkedAt, failsAt, checkedBy, checkLeft}
+use Rattle.rules.specs.Releases.{freshBrakes, isHalt, isBraked, sinceAt, rollAt, notedBrakes, serviceFails, emergencyFails}
+use Rattle.rules.specs.Releases.{causesAt, addedBrakes, rollLeft, leftBrakes, releasedBrakes, sinceBy, brakesBy}
+use Rattle.rules.specs.Steps.{isInsufficient, seenWith, seenOf, seenIn, moves, measures}
+use Rattle.rules.specs.Steps.{notedTrack, notes, adds, releases, supervised}
+use Rattle.rules.specs.Shows.{goesBefore, chosenOf, chosenFrom, chosen, shownAs}
+use Rattle.rules.specs.Reports.{causesNumber, messagesOf, offeredOf, isOver, shownFields}
+use Rattle.rules.specs.Reports.{reportWith, reportInDA, reportOutside, reportOf}
+use Rattle.rules.specs.Commands.{freshFeedback, freshKept, freshLast, noTrain, freshWith}
+use Rattle.rules.specs.Commands.{freshStm, stopped, padded, remembered, acceptedOf}
+use Rattle.rules.specs.Refusals.{isRepeat, isNext, endsNothing, findsNoPlace, rulesFor, answerOf}
+use Rattle.rules.specs.Calls.{callOf, areaOf}
+use Rattle.rules.specs.Runs.{moments, stateAtEnd}
+
+-- the feedback
+unfoldable pub feedback-computes : Unit {0}
+unfolding ofInt add sub mul div lt le
+    halvedOf isLow isHigh sensorFault limitedOf countedOf cylinderOf convertedOf pressureOf
+    isSinking changedReference dropOf
+    referenceOf isNormal waitedOf isFar settledOf setOf nextOf
+    pressureAt phaseAfter reported
+feedback-computes = tt
+
+-- the curves
+unfoldable pub curves-compute : Unit {0}
+unfolding levelOf decelerationOf
+    leadsOf
+    targetOf isAbove leftSide rightSide line lineFor isReached isReachedF isReachedAtKmh
+    intervalOf shownOf
+    largestFailing permittedOf
+    isFast brakesAt judgedOf
+    leastPermitted anyBrakes
+curves-compute = tt
+
+-- a call, and a run of calls
+unfoldable pub computing : Unit {0}
+unfolding feedback-computes curves-compute zipWith
+    commands lengthIn lengthOf
+    codeForm formOf
+    number signed
+    sameBytes
+    codeOf stateOf
+    trainOf trainInRange startInRange readingOf odometerInRange curveOf curveInRange newCurveInRange sectionOf sectionInRange
+    anyOf allOf freshTrack placedCurve givenCurve endedCurve placedSection givenSection endedSection movedSection movedTrack
+    brakingOf judgedNow vmaxOf permittedSpeed
+    noCauses curveOrders standsWith anyStands orderOf isSlow othersReleasable isReleasable addedCauses isDropped leftCauses
+    isDrop checkedAt failsAt checkedBy checkLeft
+    freshBrakes isHalt isBraked sinceAt rollAt notedBrakes serviceFails emergencyFails
+    causesAt addedBrakes rollLeft leftBrakes releasedBrakes sinceBy brakesBy
+    isInsufficient seenWith seenOf seenIn moves measures notedTrack notes adds releases supervised
+    goesBefore chosenOf chosenFrom chosen shownAs
+    causesNumber messagesOf offeredOf isOver shownFields reportWith reportInDA reportOutside reportOf
+    freshFeedback freshKept freshLast noTrain freshWith freshStm stopped padded remembered acceptedOf
+    isRepeat isNext endsNothing findsNoPlace rulesFor answerOf
+    callOf areaOf
+    moments stateAtEnd
+computing = tt

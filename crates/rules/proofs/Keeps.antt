@@ -1,0 +1,264 @@
+-- Every call leaves a unit, and so does every run from the state before any start.
+use mathlib.Core.Path.{_≡_, refl, sym, ap, _∙_, subst}
+use Prim.Native.Nat.{ℕ, zero, suc, _≤_}
+use native.Mathlib.Omega.{arith}
+use mathlib.Core.Bool.{Bool, true, false, not, _&&_, _||_, or-false}
+use mathlib.Core.List.{List, [], _∷_}
+use lib.Dec.{leb}
+use lib.ListN.{length, drop, length-append}
+use borrow.Author.Tests.{leb-true}
+use Rattle.wire.specs.Numbers.{byteAt}
+use Rattle.wire.specs.Form.{reportLength}
+use Rattle.pressure.specs.Phases.{isSet}
+use Rattle.curve.specs.declared.Curve.{Curve}
+use Rattle.rules.specs.Numbers.{isCode, isState, codeOf, stateOf}
+use Rattle.rules.specs.Operands.{codeByte, operandsOf, within, trainOf, trainInRange, startInRange, readingOf, curveOf, curveInRange, newCurveInRange, sectionOf, sectionInRange, inRange}
+use Rattle.rules.specs.Places.{freshTrack, withCurves, withSections, withForty, givenCurve, endedCurve, givenSection, endedSection}
+use Rattle.rules.specs.Releases.{freshBrakes, brakesBy}
+use Rattle.rules.specs.Steps.{withState, withTrack, withBrakes}
+use Rattle.rules.specs.Reports.{shownFields, reportWith, reportInDA, reportOutside, reportFor, reportOf}
+use Rattle.rules.specs.Commands.{longest, freshStm, entered, fortyBy, stopped, carriedOut, padded, remembered, acceptedOf}
+use Rattle.rules.specs.Refusals.{isPath, isAllowed, ordersDA}
+use Rattle.rules.specs.Runs.{Sent, answerTo, stateAfter, stateAtEnd, isAccepted}
+use Rattle.rules.specs.Units.{isSectionSound, IsUnit, CallKeepsUnit, EveryRunIsUnit}
+use Rattle.rules.specs.declared.Code.{Code}
+use Rattle.rules.specs.declared.State.{State}
+use Rattle.rules.specs.declared.Train.{Train}
+use Rattle.rules.specs.declared.Section.{Section}
+use Rattle.rules.specs.declared.Track.{Track}
+use Rattle.rules.specs.declared.Candidate.{Candidate}
+use Rattle.rules.specs.declared.Stm.{Stm}
+use Rattle.rules.proofs.Answers.{Passed, after-accepted, after-other, passed}
+use Rattle.rules.proofs.TestsU.{never, and-left, and-right, and-both, or-left, or-right, or-second, unless-used, joined-each}
+use Rattle.rules.proofs.SoundTracks.{CurvesSound, SectionsSound, curve-given, curve-ended, section-given, section-ended, track-fresh}
+use Rattle.rules.proofs.Counts.{LimitsSound, brakes-fresh, brakes-by}
+use Rattle.rules.proofs.UnitParts.{Parts, unit-parts, parts-unit, with-track, with-brakes, fresh-at, fresh-parts, fresh-is-unit}
+use Rattle.rules.proofs.Reporting.{reading-sound, reported-parts}
+
+-- ---- another state
+
+-- from DA and FA, where causes may stand, paths lead to CS and FA only
+braking-stays : (old new : State) → isPath old new ≡ true → isState State.CS new ≡ false
+    → (isState State.DA old || isState State.FA old) ≡ true → (isState State.DA new || isState State.FA new) ≡ true
+braking-stays State.DE new path other e = never e
+braking-stays State.CS new path other e = never e
+braking-stays State.HS new path other e = never e
+braking-stays State.DA new path other e =
+    or-right (isState State.DA new) (isState State.FA new) (or-second (isState State.CS new) (isState State.FA new) path other)
+braking-stays State.FA new path other e = or-right (isState State.DA new) (isState State.FA new) path
+
+failed-stays : (old new : State) → isPath old new ≡ true → isState State.FA old ≡ true → isState State.FA new ≡ true
+failed-stays State.DE new path e = never e
+failed-stays State.CS new path e = never e
+failed-stays State.HS new path e = never e
+failed-stays State.DA new path e = never e
+failed-stays State.FA new path e = path
+
+module _ (stm : Stm) (p : Parts stm) where
+  state-parts : (new : State) → isPath (stm .control .state) new ≡ true → isState State.CS new ≡ false
+      → (isState State.DA new ≡ true → isSet (stm .feedback .phase) ≡ true) → Parts (withState stm new)
+  state-parts new path other set = record {
+    body = p .body;
+    at = record {
+      braking = λ e. braking-stays (stm .control .state) new path other (p .at .braking e);
+      failed = λ e. failed-stays (stm .control .state) new path (p .at .failed e);
+      reference = set;
+    };
+  }
+
+  entered-parts : (new : State) → isPath (stm .control .state) new ≡ true
+      → (isState State.DA new ≡ true → isSet (stm .feedback .phase) ≡ true) → Parts (entered new stm)
+  entered-parts State.DE path set = state-parts State.DE path refl set
+  entered-parts State.CS path set =
+      let emptied = withTrack (withState stm State.CS) freshTrack in
+      let body = with-track (withState stm State.CS) (p .body) freshTrack (track-fresh (stm .train .length)) in
+      record {
+        body = with-brakes emptied body freshBrakes (brakes-fresh (stm .train));
+        at = fresh-at State.CS (stm .feedback .phase) set;
+      }
+  entered-parts State.HS path set = state-parts State.HS path refl set
+  entered-parts State.DA path set = state-parts State.DA path refl set
+  entered-parts State.FA path set = state-parts State.FA path refl set
+
+  -- ---- curves, sections, the 40
+
+  track-parts : (track : Track) → CurvesSound (track .curves) → SectionsSound (stm .train .length) (track .sections)
+      → Parts (withTrack stm track)
+  track-parts track c s = record { body = with-track stm (p .body) track (record { curves = c; sections = s }); at = p .at }
+
+  curves-parts : (curves : List Curve) → CurvesSound curves → Parts (withTrack stm (withCurves (stm .track) curves))
+  curves-parts curves c = track-parts (withCurves (stm .track) curves) c (p .body .places .sections)
+
+  sections-parts : (sections : List Section) → SectionsSound (stm .train .length) sections
+      → Parts (withTrack stm (withSections (stm .track) sections))
+  sections-parts sections s = track-parts (withSections (stm .track) sections) (p .body .places .curves) s
+
+  forty-parts : (forty : Bool) → Parts (withTrack stm (withForty (stm .track) forty))
+  forty-parts forty = track-parts (withForty (stm .track) forty) (p .body .places .curves) (p .body .places .sections)
+
+  -- ---- causes that a command adds, in DA
+
+  by-parts : (code : Code) (which : ℕ) → LimitsSound (stm .train) → isState State.DA (stm .control .state) ≡ true
+      → Parts (withBrakes stm (brakesBy code which (stm .brakes)))
+  unfolding brakesBy
+  by-parts code which limits da = record {
+    body =
+        with-brakes stm (p .body) (brakesBy code which (stm .brakes))
+        (brakes-by (stm .train) code which (stm .brakes) limits (p .body .counts));
+    at = record {
+      braking = λ _. or-left (isState State.DA (stm .control .state)) (isState State.FA (stm .control .state)) da;
+      failed = p .at .failed;
+      reference = p .at .reference;
+    };
+  }
+
+stopped-parts : (which : ℕ) (stm : Stm) → Parts stm → LimitsSound (stm .train) → isState State.DA (stm .control .state) ≡ true
+    → Parts (stopped which stm)
+unfolding stopped
+stopped-parts which stm p limits da =
+    let forty = fortyBy which (stm .track .forty) in
+    by-parts (withTrack stm (withForty (stm .track) forty)) (forty-parts stm p forty) Code.StopPassed which limits da
+
+-- ---- operands in range
+
+given-train : (s : List ℕ) → startInRange s ≡ true → trainInRange (trainOf s) ≡ true
+unfolding startInRange
+given-train s e = and-right (leb (byteAt s 0) 3) (trainInRange (trainOf s)) e
+
+given-curve : (s : List ℕ) → newCurveInRange s ≡ true → curveInRange (curveOf s) ≡ true
+unfolding newCurveInRange
+given-curve s e = and-right (leb (byteAt s 1) 1) (curveInRange (curveOf s)) e
+
+given-section : (length : ℕ) (s : List ℕ) → sectionInRange (sectionOf s) ≡ true → isSectionSound length (sectionOf s) ≡ true
+unfolding sectionOf
+given-section length s e = and-both (sectionInRange (sectionOf s)) true e refl
+
+at-least : (least most x : ℕ) → within least most x ≡ true → least ≤ x
+at-least least most x e = leb-true least x (and-left (leb least x) (leb x most) e)
+
+-- the tests of a train after its speed's
+abbrev laterTests : Train → List Bool
+laterTests train =
+    within 10 1000 (train .length)
+    ∷ within 400 2000 (train .full)
+    ∷ within 400 (train .full) (train .soft)
+    ∷ within 1 100 (train .times .brake)
+    ∷ leb (train .times .c) 200
+    ∷ leb (train .times .permitted) 200
+    ∷ leb (train .times .bf) 200
+    ∷ within 1 30 (train .margin)
+    ∷ within 11 30 (train .emergency)
+    ∷ within 30 150 (train .sufficient)
+    ∷ within 150 600 (train .pressure)
+    ∷ within 1 100 (train .check)
+    ∷ []
+
+limits-of : (train : Train) → trainInRange train ≡ true → LimitsSound train
+unfolding trainInRange
+limits-of train e =
+    let passes = joined-each (within 10 300 (train .speed)) (laterTests train) e in
+    record {
+      length = omega (arith, at-least 10 1000 (train .length) (passes 0));
+      brake = at-least 1 100 (train .times .brake) (passes 3);
+      check = at-least 1 100 (train .check) (passes 11);
+    }
+
+-- a command that is no start finds a train
+train-limits : (stm : Stm) → Parts stm → (stm .control .started || false) ≡ true → LimitsSound (stm .train)
+train-limits stm p e = limits-of (stm .train) (p .body .range (sym (or-false (stm .control .started)) ∙ e))
+
+-- ---- every accepted command
+
+-- what refusals 5 and 9 to 11 let pass
+pub record Granted (code : Code) (s : List ℕ) (stm : Stm) : Type 0 where
+  pub started : (stm .control .started || isCode Code.Start code) ≡ true
+  pub range : inRange code s ≡ true
+  pub allowed : isAllowed (stm .control .state) code s ≡ true
+  pub reference : (ordersDA code s && not (isSet (stm .feedback .phase))) ≡ false
+
+carried-parts : (code : Code) (s : List ℕ) (stm : Stm) → Granted code s stm → Parts stm → Parts (carriedOut code s stm)
+carried-parts Code.Start s stm g p = fresh-parts true (trainOf s) (λ _. given-train s (g .range))
+carried-parts Code.ChangeState s stm g p =
+    let new = stateOf (byteAt s 0) in
+    entered-parts stm p new (g .allowed) (unless-used (isState State.DA new) (isSet (stm .feedback .phase)) (g .reference))
+carried-parts Code.Odometer s stm g p =
+    reported-parts (stm .control .state) (readingOf s) stm refl (reading-sound s (g .range)) (train-limits stm p (g .started)) p
+carried-parts Code.NewCurve s stm g p =
+    curves-parts stm p (givenCurve (curveOf s) (stm .track .curves))
+    (curve-given (stm .track .curves) (p .body .places .curves) (curveOf s) (given-curve s (g .range)))
+carried-parts Code.EndCurve s stm g p =
+    curves-parts stm p (endedCurve (byteAt s 0) (stm .track .curves))
+    (curve-ended (stm .track .curves) (p .body .places .curves) (byteAt s 0))
+carried-parts Code.NewSection s stm g p =
+    let length = stm .train .length in
+    sections-parts stm p (givenSection (sectionOf s) (stm .track .sections))
+    (section-given length (stm .track .sections) (p .body .places .sections) (sectionOf s) (given-section length s (g .range)))
+carried-parts Code.EndSection s stm g p =
+    let length = stm .train .length in
+    let limits = train-limits stm p (g .started) in
+    sections-parts stm p (endedSection (byteAt s 0) (stm .track .sections))
+    (section-ended length (stm .track .sections) (p .body .places .sections) (byteAt s 0) (limits .length))
+carried-parts Code.StopPassed s stm g p = stopped-parts (byteAt s 0) stm p (train-limits stm p (g .started)) (g .allowed)
+carried-parts Code.Proceed s stm g p = forty-parts stm p false
+carried-parts Code.BaliseError s stm g p = by-parts stm p Code.BaliseError 0 (train-limits stm p (g .started)) (g .allowed)
+
+-- ---- what is remembered of it
+
+length-padded : (n : ℕ) (s : List ℕ) → length (padded n s) ≡ n
+unfolding padded
+length-padded zero s = refl
+length-padded (suc n) s = ap suc (length-padded n (drop 1 s))
+
+-- the fields of the shown curve, or of none, are four
+length-shown : (over insufficient : Bool) (shown : Candidate) → length (shownFields over insufficient shown) ≡ 4
+unfolding shownFields
+length-shown over insufficient shown = go (shown .judged .held) refl
+  where
+    go : (t : Bool) → shown .judged .held ≡ t → length (shownFields over insufficient shown) ≡ 4
+    go true e = rw e
+    go false e = rw e
+
+length-in-DA : (stm : Stm) → length (reportInDA stm) ≡ reportLength
+unfolding reportInDA reportWith
+length-in-DA stm = rw (length-append, length-shown)
+
+length-report : (state : State) (stm : Stm) → length (reportFor state stm) ≡ reportLength
+unfolding reportOutside
+length-report State.DE stm = refl
+length-report State.CS stm = refl
+length-report State.HS stm = refl
+length-report State.DA stm = length-in-DA stm
+length-report State.FA stm = refl
+
+remembered-unit : (command : List ℕ) (stm : Stm) → Parts stm → IsUnit (remembered command stm)
+unfolding remembered reportOf
+remembered-unit command stm p =
+    parts-unit (remembered command stm) (record { body = p .body; at = p .at }) (length-padded longest command)
+    (length-report (stm .control .state) stm)
+
+-- ---- every call, every run
+
+granted-of : (command : List ℕ) (stm : Stm) → Passed stm command → Granted (codeOf (codeByte command)) (operandsOf command) stm
+granted-of command stm t = record { started = t .started; range = t .range; allowed = t .allowed; reference = t .reference }
+
+accepted-unit : (command : List ℕ) (stm : Stm) → Passed stm command → IsUnit stm → IsUnit (acceptedOf command stm)
+unfolding acceptedOf
+accepted-unit command stm t u =
+    let code = codeOf (codeByte command) in
+    let s = operandsOf command in
+    remembered-unit command (carriedOut code s stm) (carried-parts code s stm (granted-of command stm t) (unit-parts stm u))
+
+pub call-keeps-unit : CallKeepsUnit
+call-keeps-unit stm x u = go (isAccepted (answerTo stm x)) refl
+  where
+    go : (t : Bool) → isAccepted (answerTo stm x) ≡ t → IsUnit (stateAfter stm x)
+    go true e = subst IsUnit (sym (after-accepted stm x e)) (accepted-unit (x .command) stm (passed stm x e .1) u)
+    go false e = subst IsUnit (sym (after-other stm x e)) u
+
+run-keeps-unit : (stm : Stm) (xs : List Sent) → IsUnit stm → IsUnit (stateAtEnd stm xs)
+unfolding stateAtEnd
+run-keeps-unit stm [] u = u
+run-keeps-unit stm (x ∷ xs) u = run-keeps-unit (stateAfter stm x) xs (call-keeps-unit stm x u)
+
+pub every-run-is-unit : EveryRunIsUnit
+every-run-is-unit xs = run-keeps-unit freshStm xs fresh-is-unit
