@@ -1,8 +1,8 @@
 -- What an answer tells of the command and of the state that it found. Assumes nothing.
-use mathlib.Core.Path.{_≡_, refl, sym, _∙_}
+use mathlib.Core.Path.{_≡_, refl, sym}
 use Prim.Native.Nat.{ℕ}
-use mathlib.Core.Bool.{Bool, true, false, cond, not, _&&_, _||_, false≢true}
-use mathlib.Core.List.{List, [], _∷_}
+use mathlib.Core.Bool.{Bool, true, false, cond, not, _&&_, _||_}
+use mathlib.Core.List.{List}
 use lib.Dec.{eqb}
 use lib.ListN.{length}
 use borrow.Author.Tests.{not-false}
@@ -14,10 +14,11 @@ use Rattle.rules.specs.Operands.{codeByte, numberOf, operandsOf, inRange
 use Rattle.rules.specs.Commands.{acceptedOf}
 use Rattle.rules.specs.Refusals.{isStart, isRepeat, isNext, isAllowed, ordersDA, endsNothing, findsNoPlace, firstOf, rulesFor, answerFor, answerOf}
 use Rattle.rules.specs.Calls.{nextFor, callOf}
-use Rattle.rules.specs.Runs.{Sent, answerTo, stateAfter, isAccepted, isRefused}
+use Rattle.rules.specs.Runs.{Sent, answerTo, stateAfter, isAccepted}
 use Rattle.rules.specs.declared.Answer.{Answer}
 use Rattle.rules.specs.declared.State.{State}
 use Rattle.rules.specs.declared.Stm.{Stm}
+use Rattle.rules.proofs.Tests.{impossible}
 
 -- what the list 5 to 13 lets pass
 pub record Passed (stm : Stm) (command : List ℕ) : Type 0 where
@@ -39,23 +40,19 @@ listed t5 t6 t7 t8 again t9 t10 t11 t12 t13 =
     (cond t9 Answer.OutOfRange (cond t10 Answer.NotAllowed (cond t11 Answer.NoReference (cond t12 Answer.NotHeld
     (cond t13 Answer.AllHeld Answer.Accepted)))))))))
 
--- what is not so says nothing
-accepted-not : {A : Type 0} → false ≡ true → A
-accepted-not e = absurd (false≢true e)
-
 all-pass : (t5 t6 t7 t8 again t9 t10 t11 t12 t13 : Bool) → isAccepted (listed t5 t6 t7 t8 again t9 t10 t11 t12 t13) ≡ true
     → (t5 ≡ false) × (t6 ≡ false) × (t7 ≡ false) × (t8 ≡ false) × (again ≡ false) × (t9 ≡ false) × (t10 ≡ false) × (t11 ≡ false)
     × (t12 ≡ false) × (t13 ≡ false)
-all-pass true t6 t7 t8 again t9 t10 t11 t12 t13 e = accepted-not e
-all-pass false true t7 t8 again t9 t10 t11 t12 t13 e = accepted-not e
-all-pass false false true t8 again t9 t10 t11 t12 t13 e = accepted-not e
-all-pass false false false true again t9 t10 t11 t12 t13 e = accepted-not e
-all-pass false false false false true t9 t10 t11 t12 t13 e = accepted-not e
-all-pass false false false false false true t10 t11 t12 t13 e = accepted-not e
-all-pass false false false false false false true t11 t12 t13 e = accepted-not e
-all-pass false false false false false false false true t12 t13 e = accepted-not e
-all-pass false false false false false false false false true t13 e = accepted-not e
-all-pass false false false false false false false false false true e = accepted-not e
+all-pass true t6 t7 t8 again t9 t10 t11 t12 t13 e = impossible e
+all-pass false true t7 t8 again t9 t10 t11 t12 t13 e = impossible e
+all-pass false false true t8 again t9 t10 t11 t12 t13 e = impossible e
+all-pass false false false true again t9 t10 t11 t12 t13 e = impossible e
+all-pass false false false false true t9 t10 t11 t12 t13 e = impossible e
+all-pass false false false false false true t10 t11 t12 t13 e = impossible e
+all-pass false false false false false false true t11 t12 t13 e = impossible e
+all-pass false false false false false false false true t12 t13 e = impossible e
+all-pass false false false false false false false false true t13 e = impossible e
+all-pass false false false false false false false false false true e = impossible e
 all-pass false false false false false false false false false false e =
     (refl, refl, refl, refl, refl, refl, refl, refl, refl, refl)
 
@@ -63,19 +60,19 @@ all-pass false false false false false false false false false false e =
 neither : (a b : Bool) → (not a && not b) ≡ false → (a || b) ≡ true
 neither true b e = refl
 neither false true e = refl
-neither false false e = absurd (false≢true (sym e))
+neither false false e = impossible (sym e)
 
 next-told : (start repeat next : Bool) → repeat ≡ false → (not start && not repeat && not next) ≡ false → (start || next) ≡ true
 next-told true repeat next r e = refl
-next-told false true next r e = absurd (false≢true (sym r))
+next-told false true next r e = impossible (sym r)
 next-told false false true r e = refl
-next-told false false false r e = absurd (false≢true (sym e))
+next-told false false false r e = impossible (sym e)
 
 alive-told : (failed start repeat : Bool) → repeat ≡ false → (failed && not start && not repeat) ≡ false → (start || not failed) ≡ true
 alive-told failed true repeat r e = refl
 alive-told false false repeat r e = refl
-alive-told true false true r e = absurd (false≢true (sym r))
-alive-told true false false r e = absurd (false≢true (sym e))
+alive-told true false true r e = impossible (sym r)
+alive-told true false false r e = impossible (sym e)
 
 passed-of : (stm : Stm) (command : List ℕ)
     → isAccepted (firstOf (rulesFor stm command (codeOf (codeByte command)) (operandsOf command))) ≡ true → Passed stm command
@@ -89,8 +86,8 @@ passed-of stm command e =
     let failed = isState State.FA (stm .control .state) in
     let started = stm .control .started in
     let t = all-pass (not started && not start) (eqb (numberOf command) 0) (not start && not repeat && not next)
-              (failed && not start && not repeat) repeat (not (inRange code s)) (not (isAllowed (stm .control .state) code s))
-              (ordersDA code s && not (isSet (stm .feedback .phase))) (endsNothing stm code s) (findsNoPlace stm code s) e in
+    (failed && not start && not repeat) repeat (not (inRange code s)) (not (isAllowed (stm .control .state) code s))
+    (ordersDA code s && not (isSet (stm .feedback .phase))) (endsNothing stm code s) (findsNoPlace stm code s) e in
     record {
       started = neither started start (t .0);
       number = t .1;
@@ -106,10 +103,10 @@ passed-of stm command e =
 
 by-form : (form : Form) (stm : Stm) (command : List ℕ) → isAccepted (answerFor form stm command) ≡ true
     → (form ≡ Form.Whole) × Passed stm command
-by-form Form.WrongArea stm command e = accepted-not e
-by-form Form.NoBytes stm command e = accepted-not e
-by-form Form.NoCode stm command e = accepted-not e
-by-form Form.WrongLength stm command e = accepted-not e
+by-form Form.WrongArea stm command e = impossible e
+by-form Form.NoBytes stm command e = impossible e
+by-form Form.NoCode stm command e = impossible e
+by-form Form.WrongLength stm command e = impossible e
 by-form Form.Whole stm command e = (refl, passed-of stm command e)
 
 -- an accepted command has passed 1 to 4, and 5 to 13
@@ -121,23 +118,23 @@ accepted-passed stm command area e = by-form (formOf command area) stm command e
 -- the next state, by the answer
 next-accepted : (answer : Answer) (command : List ℕ) (stm : Stm) → isAccepted answer ≡ true → nextFor answer command stm ≡ acceptedOf command stm
 next-accepted Answer.Accepted command stm e = refl
-next-accepted Answer.Again command stm e = accepted-not e
-next-accepted Answer.WrongArea command stm e = accepted-not e
-next-accepted Answer.NoBytes command stm e = accepted-not e
-next-accepted Answer.NoCode command stm e = accepted-not e
-next-accepted Answer.WrongLength command stm e = accepted-not e
-next-accepted Answer.NotStarted command stm e = accepted-not e
-next-accepted Answer.ZeroNumber command stm e = accepted-not e
-next-accepted Answer.WrongNumber command stm e = accepted-not e
-next-accepted Answer.Failed command stm e = accepted-not e
-next-accepted Answer.OutOfRange command stm e = accepted-not e
-next-accepted Answer.NotAllowed command stm e = accepted-not e
-next-accepted Answer.NoReference command stm e = accepted-not e
-next-accepted Answer.NotHeld command stm e = accepted-not e
-next-accepted Answer.AllHeld command stm e = accepted-not e
+next-accepted Answer.Again command stm e = impossible e
+next-accepted Answer.WrongArea command stm e = impossible e
+next-accepted Answer.NoBytes command stm e = impossible e
+next-accepted Answer.NoCode command stm e = impossible e
+next-accepted Answer.WrongLength command stm e = impossible e
+next-accepted Answer.NotStarted command stm e = impossible e
+next-accepted Answer.ZeroNumber command stm e = impossible e
+next-accepted Answer.WrongNumber command stm e = impossible e
+next-accepted Answer.Failed command stm e = impossible e
+next-accepted Answer.OutOfRange command stm e = impossible e
+next-accepted Answer.NotAllowed command stm e = impossible e
+next-accepted Answer.NoReference command stm e = impossible e
+next-accepted Answer.NotHeld command stm e = impossible e
+next-accepted Answer.AllHeld command stm e = impossible e
 
 next-other : (answer : Answer) (command : List ℕ) (stm : Stm) → isAccepted answer ≡ false → nextFor answer command stm ≡ stm
-next-other Answer.Accepted command stm e = absurd (false≢true (sym e))
+next-other Answer.Accepted command stm e = impossible (sym e)
 next-other Answer.Again command stm e = refl
 next-other Answer.WrongArea command stm e = refl
 next-other Answer.NoBytes command stm e = refl

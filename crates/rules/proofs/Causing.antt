@@ -42,10 +42,12 @@ pub record CausesBelow (c c′ : Causes) : Type 0 where
 bit : {stood stood′ ordered ordered′ releasable releasable′ : Bool} (pressed : Bool)
     → stood ⇒ stood′ → ordered ⇒ ordered′ → ((stood || ordered) ≡ true → releasable′ ⇒ releasable)
     → (stood || ordered) && not (pressed && releasable) ⇒ (stood′ || ordered′) && not (pressed && releasable′)
-bit {stood} {ordered = ordered} {releasable = releasable} pressed h k r = record { run = λ t.
-  let (standing, left) = and-eq-true-iff (stood || ordered) (not (pressed && releasable)) .0 t in
-  ap₂ _&&_ (or-implies h k .run standing)
-  (not-implies (and-implies (same-implies {a = pressed}) (r standing)) .run left) }
+bit {stood} {ordered = ordered} {releasable = releasable} pressed h k r = record {
+  run = λ t.
+      let (standing, left) = and-eq-true-iff (stood || ordered) (not (pressed && releasable)) .0 t in
+      ap₂ _&&_ (or-implies h k .run standing)
+      (not-implies (and-implies (same-implies {a = pressed}) (r standing)) .run left);
+}
 
 -- ---- the twelve bits
 

@@ -1,13 +1,13 @@
 -- Members' point 3: two units compared over two lists of odometer reports. Assumes nothing.
 use Prim.Native.Nat.{ℕ}
 use mathlib.Core.Path.{_≡_, refl, sym, _∙_, ap}
-use mathlib.Core.Bool.{Bool, true, false, _||_, false≢true}
+use mathlib.Core.Bool.{Bool, true, false, false≢true, _||_}
 use mathlib.Core.List.{List, [], _∷_}
 use native.Mathlib.Nat.{le-refl}
 use Rattle.rules.specs.Numbers.{codeOf, isCode}
 use Rattle.rules.specs.Operands.{codeByte, numberOf, operandsOf, readingOf}
 use Rattle.rules.specs.Table.{stands}
-use Rattle.rules.specs.Steps.{reportedIn}
+use Rattle.rules.specs.Odometer.{reportedIn}
 use Rattle.rules.specs.Commands.{carriedOut, withLast, remembered, acceptedOf}
 use Rattle.rules.specs.Refusals.{isStart}
 use Rattle.rules.specs.Calls.{areaFor, areaOf}
@@ -185,8 +185,8 @@ claimed : (u w : Stm) (x y : Sent) → RunsBelow (stateAfter u x) (stateAfter w 
 claimed u w x y runs h h′ = record {
   permitted = rw (area-is u x h, area-is w y h′) (runs .report .permitted);
   interval = λ curve curve′ holds holds′ same.
-    interval-no-earlier (runs .units .train) (runs .units .kept) curve curve′
-    (runs .units .track .curves .stricter curve curve′ holds holds′ same);
+      interval-no-earlier (runs .units .train) (runs .units .kept) curve curve′
+      (runs .units .track .curves .stricter curve curve′ holds holds′ same);
   order = rw (area-is u x h, area-is w y h′) (runs .report .order);
 }
 
@@ -200,9 +200,10 @@ runs-compared u w [] [] runs faster refused service emergency gear = tt
 runs-compared u w [] (y ∷ ys) runs faster refused service emergency gear = absurd faster
 runs-compared u w (x ∷ xs) [] runs faster refused service emergency gear = absurd faster
 runs-compared u w (x ∷ xs) (y ∷ ys) runs faster refused service emergency gear =
-    let next = step-below runs (faster .0) (service .0) (emergency .0) (gear .0) (refused .0) in
-    (claimed u w x y next,
-    runs-compared (stateAfter u x) (stateAfter w y) xs ys next (faster .1) (refused .1) (service .1) (emergency .1) (gear .1))
+    let next = step-below runs (faster .0) (service .0) (emergency .0) (gear .0) (refused .0) in (
+      claimed u w x y next,
+      runs-compared (stateAfter u x) (stateAfter w y) xs ys next (faster .1) (refused .1) (service .1) (emergency .1) (gear .1),
+    )
 
 pub two-runs : TwoRuns
 two-runs u w xs ys compared faster units refused service emergency gear alike =

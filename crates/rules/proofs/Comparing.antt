@@ -12,21 +12,7 @@ use Rattle.rules.specs.Numbers.{codeOf}
 use Rattle.rules.specs.Places.{copies, anyOf, freeCurve, freeSection, places}
 use Rattle.rules.specs.Runs.{moments}
 use Rattle.rules.specs.Units.{IsUnit}
-use Rattle.rules.specs.TwoRuns.{
-  TrainsCompared,
-  TracksCompared,
-  Compared,
-  Both,
-  Faster,
-  RefusedAlike,
-  NoServiceFault,
-  NoEmergencyFault,
-  InGear,
-  UnexpectedStopAlike,
-  Presumed,
-  Claimed,
-  ClaimGiven,
-}
+use Rattle.rules.specs.TwoRuns.{TrainsCompared, TracksCompared, Compared, Both, Faster, RefusedAlike, NoServiceFault, NoEmergencyFault, InGear, UnexpectedStopAlike, Presumed, Claimed, ClaimGiven}
 use Rattle.rules.specs.Figures.{odometer}
 use Rattle.rules.specs.Pairs.{Pair, firstUnit, secondUnit}
 use Rattle.rules.specs.declared.Section.{Section}

@@ -28,8 +28,8 @@ use Rattle.rules.specs.Table.{othersReleasable, isReleasable, addedCause
 use Rattle.rules.specs.Checks.{isDrop, checkedAt, failsAt, checkedBy, checkLeft}
 use Rattle.rules.specs.Releases.{freshBrakes, isHalt, isBraked, sinceAt, rollAt, notedBrakes, serviceFails, emergencyFails}
 use Rattle.rules.specs.Releases.{causesAt, addedBrakes, rollLeft, leftBrakes, releasedBrakes, sinceBy, brakesBy}
-use Rattle.rules.specs.Steps.{isInsufficient, seenWith, seenOf, seenIn, moves, measures}
-use Rattle.rules.specs.Steps.{notedTrack, notes, adds, releases, supervised}
+use Rattle.rules.specs.Odometer.{isInsufficient, seenWith, seenOf, seenIn, moves, measures}
+use Rattle.rules.specs.Odometer.{notedTrack, notes, adds, releases, supervised}
 use Rattle.rules.specs.Shows.{goesBefore, chosenOf, chosenFrom, chosen, shownAs}
 use Rattle.rules.specs.Reports.{causesNumber, messagesOf, offeredOf, isOver, shownFields}
 use Rattle.rules.specs.Reports.{reportWith, reportInDA, reportOutside, reportOf}

@@ -21,20 +21,20 @@ use Rattle.rules.specs.declared.Brakes.{Brakes}
 use Rattle.rules.specs.declared.Train.{Train}
 use Rattle.rules.specs.declared.Reading.{Reading}
 use Rattle.rules.specs.declared.Seen.{Seen}
-use Rattle.rules.proofs.TestsU.{never, and-left, and-right, and-mono, or-left, or-either, or-neither, cond-by, any-mono}
+use Rattle.rules.proofs.Tests.{impossible, and-left, and-right, and-mono, or-left, or-either, neither, cond-by, any-mono}
 
 -- ---- a check
 
 check-at : (before after : Bool) (limit : ℕ) (dropped : Bool) (check : Check) → (before ≡ true → after ≡ true) → 1 ≤ limit
     → isCheckSound before limit check ≡ true → isCheckSound after limit (checkedAt before after limit dropped check) ≡ true
 unfolding checkedAt
-check-at true true limit dropped Check.Idle h some e = never e
+check-at true true limit dropped Check.Idle h some e = impossible e
 check-at true true limit dropped (Check.Counting count) h some e =
     cond-by (λ new. isCheckSound true limit new ≡ true) (dropped || leb limit (count + 1)) Check.Done (Check.Counting (count + 1))
     (λ _. refl)
-    (λ t. lt-ltb (count + 1) limit (leb-false limit (count + 1) (or-neither dropped (leb limit (count + 1)) t .1)))
+    (λ t. lt-ltb (count + 1) limit (leb-false limit (count + 1) (neither dropped (leb limit (count + 1)) t .1)))
 check-at true true limit dropped Check.Done h some e = refl
-check-at true false limit dropped check h some e = never (h refl)
+check-at true false limit dropped check h some e = impossible (h refl)
 check-at false true limit dropped check h some e = lt-ltb 0 limit some
 check-at false false limit dropped check h some e = refl
 
@@ -42,7 +42,7 @@ check-by : (before after : Bool) (limit : ℕ) (check : Check) → (before ≡ t
     → isCheckSound before limit check ≡ true → isCheckSound after limit (checkedBy before after check) ≡ true
 unfolding checkedBy
 check-by true true limit check h some e = e
-check-by true false limit check h some e = never (h refl)
+check-by true false limit check h some e = impossible (h refl)
 check-by false true limit check h some e = lt-ltb 0 limit some
 check-by false false limit check h some e = refl
 
@@ -50,7 +50,7 @@ check-left : (left before : Bool) (limit : ℕ) (check : Check) → (left ≡ tr
     → isCheckSound before limit check ≡ true → isCheckSound left limit (checkLeft left check) ≡ true
 unfolding checkLeft
 check-left true true limit check h e = e
-check-left true false limit check h e = never (h refl)
+check-left true false limit check h e = impossible (h refl)
 check-left false before limit check h e = refl
 
 -- ---- the rolled ground

@@ -20,7 +20,7 @@ use Rattle.pressure.specs.Convert.{kPa, halvedOf, isLow, isHigh, sensorFault, l
 use Rattle.pressure.specs.Exact.{SixteenBits}
 use Rattle.pressure.specs.Phases.{referenceOf}
 use Rattle.pressure.specs.Report.{pressureAt, phaseAfter, reported}
-use Rattle.rules.proofs.TestsU.{cond-by}
+use Rattle.rules.proofs.Tests.{cond-by}
 
 -- ---- an f32 from a power of two up
 

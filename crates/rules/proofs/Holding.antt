@@ -8,7 +8,7 @@ use lib.Dec.{eqb}
 use lib.ListN.{length, length-map}
 use borrow.Author.Tests.{eqb-true, eq-eqb}
 use Rattle.rules.specs.Places.{places, anyOf, allOf}
-use Rattle.rules.proofs.TestsU.{and-left, and-right, and-both, not-mono, if-made, if-used, cond-by, all-head, all-tail, all-cons, none-passes, all-map}
+use Rattle.rules.proofs.Tests.{and-left, and-right, and-both, not-mono, if-made, if-used, cond-by, all-head, all-tail, all-cons, none-passes, all-map}
 
 module _ {A : Type 0} (held : A → Bool) (id : A → ℕ) where
   -- the place holds the id, or not; no place holds it

@@ -15,7 +15,7 @@ use Rattle.rules.specs.Numbers.{isCode, isState, codeOf, stateOf}
 use Rattle.rules.specs.Operands.{codeByte, operandsOf, within, trainOf, trainInRange, startInRange, readingOf, curveOf, curveInRange, newCurveInRange, sectionOf, sectionInRange, inRange}
 use Rattle.rules.specs.Places.{freshTrack, withCurves, withSections, withForty, givenCurve, endedCurve, givenSection, endedSection}
 use Rattle.rules.specs.Releases.{freshBrakes, brakesBy}
-use Rattle.rules.specs.Steps.{withState, withTrack, withBrakes}
+use Rattle.rules.specs.Odometer.{withState, withTrack, withBrakes}
 use Rattle.rules.specs.Reports.{shownFields, reportWith, reportInDA, reportOutside, reportFor, reportOf}
 use Rattle.rules.specs.Commands.{longest, freshStm, entered, fortyBy, stopped, carriedOut, padded, remembered, acceptedOf}
 use Rattle.rules.specs.Refusals.{isPath, isAllowed, ordersDA}
@@ -29,7 +29,7 @@ use Rattle.rules.specs.declared.Track.{Track}
 use Rattle.rules.specs.declared.Candidate.{Candidate}
 use Rattle.rules.specs.declared.Stm.{Stm}
 use Rattle.rules.proofs.Answers.{Passed, after-accepted, after-other, passed}
-use Rattle.rules.proofs.TestsU.{never, and-left, and-right, and-both, or-left, or-right, or-second, unless-used, joined-each}
+use Rattle.rules.proofs.Tests.{impossible, and-left, and-right, and-both, or-left, or-right, or-second, unless-used, joined-each}
 use Rattle.rules.proofs.SoundTracks.{CurvesSound, SectionsSound, curve-given, curve-ended, section-given, section-ended, track-fresh}
 use Rattle.rules.proofs.Counts.{LimitsSound, brakes-fresh, brakes-by}
 use Rattle.rules.proofs.UnitParts.{Parts, unit-parts, parts-unit, with-track, with-brakes, fresh-at, fresh-parts, fresh-is-unit}
@@ -40,18 +40,18 @@ use Rattle.rules.proofs.Reporting.{reading-sound, reported-parts}
 -- from DA and FA, where causes may stand, paths lead to CS and FA only
 braking-stays : (old new : State) → isPath old new ≡ true → isState State.CS new ≡ false
     → (isState State.DA old || isState State.FA old) ≡ true → (isState State.DA new || isState State.FA new) ≡ true
-braking-stays State.DE new path other e = never e
-braking-stays State.CS new path other e = never e
-braking-stays State.HS new path other e = never e
+braking-stays State.DE new path other e = impossible e
+braking-stays State.CS new path other e = impossible e
+braking-stays State.HS new path other e = impossible e
 braking-stays State.DA new path other e =
     or-right (isState State.DA new) (isState State.FA new) (or-second (isState State.CS new) (isState State.FA new) path other)
 braking-stays State.FA new path other e = or-right (isState State.DA new) (isState State.FA new) path
 
 failed-stays : (old new : State) → isPath old new ≡ true → isState State.FA old ≡ true → isState State.FA new ≡ true
-failed-stays State.DE new path e = never e
-failed-stays State.CS new path e = never e
-failed-stays State.HS new path e = never e
-failed-stays State.DA new path e = never e
+failed-stays State.DE new path e = impossible e
+failed-stays State.CS new path e = impossible e
+failed-stays State.HS new path e = impossible e
+failed-stays State.DA new path e = impossible e
 failed-stays State.FA new path e = path
 
 module _ (stm : Stm) (p : Parts stm) where

@@ -1,4 +1,5 @@
 pub mod Tests
+pub mod Told
 pub mod Answers
 pub mod Once
 pub mod Ordering
@@ -13,7 +14,6 @@ pub mod Written
 pub mod Repeats
 pub mod Faster
 pub mod Compare
-pub mod TestsU
 pub mod Holding
 pub mod SoundTracks
 pub mod Counts

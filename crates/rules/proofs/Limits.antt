@@ -86,7 +86,7 @@ module _ {braking braking′ : Braking} (weaker : WeakerBraking braking braking�
   brakes-still interval curve curve′ stricter held =
       let standing : curve .held ⇒ curve′ .held = record { run = λ e. held } in
       let braking-on : judgedOf braking v curve .brakes ⇒ judgedOf braking′ v′ curve′ .brakes =
-            record { run = still-brakes curve curve′ braking braking′ v v′ stricter weaker faster } in
+      record { run = still-brakes curve curve′ braking braking′ v v′ stricter weaker faster } in
       let later = interval-is-not-earlier curve curve′ braking braking′ v v′ stricter weaker faster in
       and-implies (and-implies standing braking-on) (leb-implies (le-refl (rankOf interval)) later)
 

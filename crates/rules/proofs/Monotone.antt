@@ -66,10 +66,12 @@ module _ {A : Type 0} (test : A → Bool) where
 
 pub any-implies : {A B : Type 0} (test : A → Bool) (test′ : B → Bool) (xs : List A) (ys : List B)
     → ((x : A) → x ∈ xs → test x ≡ true → Passing test′ ys) → anyOf test xs ⇒ anyOf test′ ys
-any-implies test test′ xs ys h = record { run = λ e.
-  let (x, m, p) = any-from test xs e in
-  let (y, n, q) = h x m p in
-  any-in test′ ys n q }
+any-implies test test′ xs ys h = record {
+  run = λ e.
+      let (x, m, p) = any-from test xs e in
+      let (y, n, q) = h x m p in
+      any-in test′ ys n q;
+}
 
 -- ---- the least of a base and a list
 

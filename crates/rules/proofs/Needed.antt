@@ -8,25 +8,8 @@ use mathlib.Core.Bool.{true, false}
 use mathlib.Core.List.{[]}
 use Rattle.rules.specs.Places.{freeCurve}
 use Rattle.rules.specs.Runs.{stateAtEnd}
-use Rattle.rules.specs.TwoRuns.{
-  Both,
-  Faster,
-  RefusalsAreNeeded,
-  NoServiceFaultIsNeeded,
-  NoEmergencyFaultIsNeeded,
-  GearIsNeeded,
-  StopsAreNeeded,
-}
-use Rattle.rules.specs.Pairs.{
-  gearPair,
-  stopPassed,
-  stopsPair,
-  dropBetween,
-  servicePair,
-  emergencyPair,
-  stopAhead,
-  refusalsPair,
-}
+use Rattle.rules.specs.TwoRuns.{Both, Faster, RefusalsAreNeeded, NoServiceFaultIsNeeded, NoEmergencyFaultIsNeeded, GearIsNeeded, StopsAreNeeded}
+use Rattle.rules.specs.Pairs.{gearPair, stopPassed, stopsPair, dropBetween, servicePair, emergencyPair, stopAhead, refusalsPair}
 use Rattle.rules.specs.declared.Stm.{Stm}
 use Rattle.rules.proofs.Computing.{computing}
 use Rattle.rules.proofs.LedUnits.{trains, standing, led, led-weaker, led-short-brake, led-short-check}

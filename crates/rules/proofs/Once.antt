@@ -1,33 +1,32 @@
 -- What an answer other than 0 leaves, and that no number is accepted twice (specs/Once.antt). Assumes nothing.
 use mathlib.Core.Path.{_≡_, refl, sym, ap, subst, _∙_}
-use Prim.Native.Nat.{ℕ, _+_, _<_, _≤_}
-use mathlib.Core.Bool.{Bool, true, false, cond, not, _&&_, _||_, false≢true, or-false, and-false}
+use Prim.Native.Nat.{ℕ, _+_, _<_}
+use mathlib.Core.Bool.{Bool, true, false, cond, not, _&&_, _||_, or-false, and-false}
 use mathlib.Core.List.{List, [], _∷_, _++_}
 use native.Mathlib.Omega.{arith}
 use lib.Dec.{eqb}
-use lib.ListN.{length, drop}
+use lib.ListN.{length}
 use borrow.Author.Tests.{eqb-true, not-true}
 use Rattle.wire.specs.Numbers.{byteAt, number}
 use Rattle.wire.specs.Form.{reportLength, formOf}
-use Rattle.wire.specs.Bytes.{sameBytes}
 use Rattle.wire.specs.declared.form.Form.{Form}
 use Rattle.wire.proofs.Commands.{whole-area}
 use Rattle.wire.proofs.Equal.{equal-same}
 use Rattle.rules.specs.Numbers.{codeOf, stateOf, isCode, isState}
 use Rattle.rules.specs.Operands.{codeByte, numberOf, operandsOf, readingOf}
-use Rattle.rules.specs.Steps.{moves, measures, notes, adds, releases, supervised, reportedIn}
+use Rattle.rules.specs.Odometer.{moves, measures, notes, adds, releases, supervised, reportedIn}
 use Rattle.rules.specs.Commands.{freshWith, entered, stopped, carriedOut, padded, longest, remembered, acceptedOf}
-use Rattle.rules.specs.Refusals.{isStart, isRepeat, isNext, firstOf, rulesFor, answerFor, answerOf}
+use Rattle.rules.specs.Refusals.{isStart, isRepeat, isNext, rulesFor, answerFor, answerOf}
 use Rattle.rules.specs.Calls.{areaFor, callOf, areaOf}
 use Rattle.rules.specs.Runs.{Sent, Moment, answerTo, stateAfter, momentOf, moments, stateAtEnd, isAccepted, isRefused, noneAccepted}
-use Rattle.rules.specs.Once.{StateChangesAtZeroOnly, RefusalLeavesArea, AnswerWritesReport, SentAgainIsAgain, acceptedNumbers, BetweenStarts, Follow, NumbersFollow, NoneAcceptedTwice, isLeft, thinned, momentsLeft, LeavingOutChangesNothing}
+use Rattle.rules.specs.Once.{StateChangesAtZeroOnly, RefusalLeavesArea, AnswerWritesReport, SentAgainIsAgain, acceptedNumbers, Follow, NumbersFollow, NoneAcceptedTwice, isLeft, thinned, momentsLeft, LeavingOutChangesNothing}
 use Rattle.rules.specs.declared.Answer.{Answer}
 use Rattle.rules.specs.declared.Code.{Code}
 use Rattle.rules.specs.declared.Reading.{Reading}
 use Rattle.rules.specs.declared.State.{State}
 use Rattle.rules.specs.declared.Stm.{Stm}
 use Rattle.laws.proofs.Lists.{never}
-use Rattle.rules.proofs.Tests.{both, neither}
+use Rattle.rules.proofs.Tests.{impossible, both, neither}
 use Rattle.rules.proofs.Answers.{Passed, passed, after-accepted, after-other}
 
 pub state-changes-at-zero-only : StateChangesAtZeroOnly
@@ -36,8 +35,8 @@ state-changes-at-zero-only stm x e = after-other stm x e
 -- ---- the area
 
 area-refused : (answer : Answer) (report area : List ℕ) → isRefused answer ≡ true → areaFor answer report area ≡ area
-area-refused Answer.Accepted report area e = absurd (false≢true e)
-area-refused Answer.Again report area e = absurd (false≢true e)
+area-refused Answer.Accepted report area e = impossible e
+area-refused Answer.Again report area e = impossible e
 area-refused Answer.WrongArea report area e = refl
 area-refused Answer.NoBytes report area e = refl
 area-refused Answer.NoCode report area e = refl
@@ -55,19 +54,19 @@ area-refused Answer.AllHeld report area e = refl
 area-answered : (answer : Answer) (report area : List ℕ) → isRefused answer ≡ false → areaFor answer report area ≡ report
 area-answered Answer.Accepted report area e = refl
 area-answered Answer.Again report area e = refl
-area-answered Answer.WrongArea report area e = absurd (false≢true (sym e))
-area-answered Answer.NoBytes report area e = absurd (false≢true (sym e))
-area-answered Answer.NoCode report area e = absurd (false≢true (sym e))
-area-answered Answer.WrongLength report area e = absurd (false≢true (sym e))
-area-answered Answer.NotStarted report area e = absurd (false≢true (sym e))
-area-answered Answer.ZeroNumber report area e = absurd (false≢true (sym e))
-area-answered Answer.WrongNumber report area e = absurd (false≢true (sym e))
-area-answered Answer.Failed report area e = absurd (false≢true (sym e))
-area-answered Answer.OutOfRange report area e = absurd (false≢true (sym e))
-area-answered Answer.NotAllowed report area e = absurd (false≢true (sym e))
-area-answered Answer.NoReference report area e = absurd (false≢true (sym e))
-area-answered Answer.NotHeld report area e = absurd (false≢true (sym e))
-area-answered Answer.AllHeld report area e = absurd (false≢true (sym e))
+area-answered Answer.WrongArea report area e = impossible (sym e)
+area-answered Answer.NoBytes report area e = impossible (sym e)
+area-answered Answer.NoCode report area e = impossible (sym e)
+area-answered Answer.WrongLength report area e = impossible (sym e)
+area-answered Answer.NotStarted report area e = impossible (sym e)
+area-answered Answer.ZeroNumber report area e = impossible (sym e)
+area-answered Answer.WrongNumber report area e = impossible (sym e)
+area-answered Answer.Failed report area e = impossible (sym e)
+area-answered Answer.OutOfRange report area e = impossible (sym e)
+area-answered Answer.NotAllowed report area e = impossible (sym e)
+area-answered Answer.NoReference report area e = impossible (sym e)
+area-answered Answer.NotHeld report area e = impossible (sym e)
+area-answered Answer.AllHeld report area e = impossible (sym e)
 
 pub refusal-leaves-area : RefusalLeavesArea
 unfolding areaOf
@@ -133,9 +132,9 @@ accepted-repeat stm command p =
 again-among : (started start number repeat next failed : Bool) (rest : Answer)
     → started ≡ true → number ≡ false → repeat ≡ true
     → cond (not started && not start) Answer.NotStarted
-      (cond number Answer.ZeroNumber
-      (cond (not start && not repeat && not next) Answer.WrongNumber
-      (cond (failed && not start && not repeat) Answer.Failed (cond repeat Answer.Again rest)))) ≡ Answer.Again
+    (cond number Answer.ZeroNumber
+    (cond (not start && not repeat && not next) Answer.WrongNumber
+    (cond (failed && not start && not repeat) Answer.Failed (cond repeat Answer.Again rest)))) ≡ Answer.Again
 again-among started start number repeat next failed rest e f g =
     rw (e, f, g, and-false (not start), and-false (failed && not start))
 
@@ -163,7 +162,7 @@ answer-again stm x area′ e f =
 
 again-moment : (stm : Stm) (command area : List ℕ) → answerOf stm command (length area) ≡ Answer.Again
     → _≡_ {A = Moment} (momentOf stm (record { command = command; area = area }))
-      (record { answer = Answer.Again; area = stm .last .report; stm = stm })
+    (record { answer = Answer.Again; area = stm .last .report; stm = stm })
 unfolding callOf areaOf
 again-moment stm command area e = rw e
 
@@ -193,9 +192,10 @@ follow-step : (stm : Stm) (x : Sent) (numbers : List ℕ) (accepted : Bool)
     → isAccepted (answerTo stm x) ≡ accepted → not (accepted && isStart (x .command)) ≡ true
     → Follow (numberOf (stateAfter stm x .last .bytes)) numbers
     → Follow (numberOf (stm .last .bytes)) (cond accepted (numberOf (x .command) ∷ numbers) numbers)
-follow-step stm x numbers true e f follow =
-    (accepted-next stm (x .command) (passed stm x e .1) (not-true _ f),
-    subst (λ n. Follow n numbers) (ap (λ s. numberOf (s .last .bytes)) (after-accepted stm x e) ∙ accepted-number stm (x .command)) follow)
+follow-step stm x numbers true e f follow = (
+  accepted-next stm (x .command) (passed stm x e .1) (not-true _ f),
+  subst (λ n. Follow n numbers) (ap (λ s. numberOf (s .last .bytes)) (after-accepted stm x e) ∙ accepted-number stm (x .command)) follow,
+)
 follow-step stm x numbers false e f follow = subst (λ s. Follow (numberOf (s .last .bytes)) numbers) (after-other stm x e) follow
 
 pub numbers-follow : NumbersFollow

@@ -11,7 +11,7 @@ use Rattle.rules.specs.Numbers.{codeOf, stateOf, bitNumber, isCode, isSt
 use Rattle.rules.specs.Operands.{codeByte, operandsOf, readingOf, within}
 use Rattle.rules.specs.Table.{stands, causesFor, noCauses, orderedBy, isReleasable, addedCauses, pressedFor, isDropped, leftCauses}
 use Rattle.rules.specs.Releases.{freshBrakes, sinceAt, notedBrakes, serviceFails, causesAt, addedBrakes, leftBrakes, releasedBrakes, sinceBy, brakesBy}
-use Rattle.rules.specs.Steps.{withState, withBrakes, seenWith, seenOf, seenIn, moves, measures, notes, adds, releases, isFresh, supervised, reportedIn}
+use Rattle.rules.specs.Odometer.{withState, withBrakes, seenWith, seenOf, seenIn, moves, measures, notes, adds, releases, isFresh, supervised, reportedIn}
 use Rattle.rules.specs.Commands.{freshWith, entered, stopped, carriedOut, remembered, acceptedOf}
 use Rattle.rules.specs.Runs.{Sent, answerTo, stateAfter, isAccepted, isOf, ordersCS, freshens}
 use Rattle.rules.specs.Braking.{readingIn, isSupervised, measuredAt, seenAt, orderedNow, releasableNow, freshlyPressed, OrderedAndReleased, OrderedInFailure, OthersDropNothing, OthersOrderFiveToNine, FreshHasNoCause}
@@ -24,7 +24,8 @@ use Rattle.rules.specs.declared.Seen.{Seen}
 use Rattle.rules.specs.declared.Reading.{Reading}
 use Rattle.rules.specs.declared.Stm.{Stm}
 use Rattle.rules.proofs.Answers.{after-accepted}
-use Rattle.rules.proofs.Tests.{both, either, code-is, state-is}
+use Rattle.rules.proofs.Tests.{both, either}
+use Rattle.rules.proofs.Told.{code-is, state-is}
 
 -- ---- the bits
 

@@ -33,7 +33,8 @@ use Rattle.rules.specs.declared.Code.{Code}
 use Rattle.rules.specs.declared.Check.{Check}
 use Rattle.rules.specs.declared.Candidate.{Candidate}
 use Rattle.rules.specs.declared.Stm.{Stm}
-use Rattle.rules.proofs.Tests.{both, second-fails, implied, not-both, either, neither, code-told, code-is}
+use Rattle.rules.proofs.Tests.{both, second-fails, if-used, not-both, either, neither}
+use Rattle.rules.proofs.Told.{code-told, code-is}
 
 -- ---- codes
 
@@ -271,7 +272,7 @@ module _ (best next : Candidate) where
   over-best : best .judged .held ≡ true → (t : Bool) → nextChosen ≡ t → ShownOver best (cond t next best)
   over-best h true e =
       let p = both (next .judged .held) (not (best .judged .held) || goesBefore next best) e in
-      let before = implied (best .judged .held) (goesBefore next best) h (p .1) in
+      let before = if-used (best .judged .held) (goesBefore next best) (p .1) h in
       (p .0, before-one-way next best before)
   over-best h false e = (h, not-before-itself best)
 

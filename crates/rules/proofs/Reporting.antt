@@ -12,14 +12,14 @@ use Rattle.rules.specs.Places.{movedTrack}
 use Rattle.rules.specs.Speeds.{brakingOf, judgedNow}
 use Rattle.rules.specs.Checks.{isDrop}
 use Rattle.rules.specs.Releases.{addedBrakes, leftBrakes, releasedBrakes}
-use Rattle.rules.specs.Steps.{withState, withBrakes, seenIn, moves, measures, notedTrack, notes, adds, releases, isFresh, supervised, reportedIn}
+use Rattle.rules.specs.Odometer.{withState, withBrakes, seenIn, moves, measures, notedTrack, notes, adds, releases, isFresh, supervised, reportedIn}
 use Rattle.rules.specs.declared.State.{State}
 use Rattle.rules.specs.declared.Train.{Train}
 use Rattle.rules.specs.declared.Track.{Track}
 use Rattle.rules.specs.declared.Kept.{Kept}
 use Rattle.rules.specs.declared.Reading.{Reading}
 use Rattle.rules.specs.declared.Stm.{Stm}
-use Rattle.rules.proofs.TestsU.{never, and-left, cond-by}
+use Rattle.rules.proofs.Tests.{impossible, and-left, cond-by}
 use Rattle.rules.proofs.SoundTracks.{TrackSound, curves-noted, track-moved}
 use Rattle.rules.proofs.Counts.{LimitsSound, brakes-noted, brakes-added, brakes-released}
 use Rattle.rules.proofs.HighReadings.{Alike, signed-alike}
@@ -93,10 +93,10 @@ unfolding releases releasedBrakes leftBrakes
 releases-parts loss text stm da set b =
     let released = releasedBrakes (seenIn stm) loss text (stm .brakes) in
     cond-by Parts (stm .brakes .failed) (withState stm State.FA) (withBrakes stm released)
-    (λ _. record { body = b; at = record { braking = λ _. refl; failed = λ _. refl; reference = λ e. never e } })
+    (λ _. record { body = b; at = record { braking = λ _. refl; failed = λ _. refl; reference = λ e. impossible e } })
     (λ sound. record {
       body = with-brakes stm b released (brakes-released (stm .train) (seenIn stm) loss text (stm .brakes) (b .counts));
-      at = record { braking = λ _. rw da refl; failed = λ e. never (sym sound ∙ e); reference = λ _. set };
+      at = record { braking = λ _. rw da refl; failed = λ e. impossible (sym sound ∙ e); reference = λ _. set };
     })
 
 supervised-parts : (r : Reading) (stm : Stm) → ReadingSound r → LimitsSound (stm .train) → stm .control .state ≡ State.DA

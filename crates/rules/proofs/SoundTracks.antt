@@ -15,7 +15,7 @@ use Rattle.rules.specs.Places.{allOf, freeCurve, freeSection, freshTrack
 use Rattle.rules.specs.Units.{isCurveSound, isGroundSound, isSectionSound}
 use Rattle.rules.specs.declared.Section.{Section}
 use Rattle.rules.specs.declared.Track.{Track}
-use Rattle.rules.proofs.TestsU.{never, and-left, and-both, if-made, if-mono, cond-by, zip-self}
+use Rattle.rules.proofs.Tests.{impossible, and-left, and-both, if-made, if-mono, cond-by, zip-self}
 use Rattle.rules.proofs.Holding.{Sound, map-sound, changed-sound, given-sound}
 
 -- ---- curves
@@ -40,7 +40,7 @@ curves-noted curves s judge =
 
 pub curve-ended : (curves : List Curve) → CurvesSound curves → (id : ℕ) → CurvesSound (endedCurve id curves)
 unfolding endedCurve
-curve-ended curves s id = changed-sound s (isCurve id) (λ _. freeCurve) (λ _ _ e. never e) (λ _ _. refl)
+curve-ended curves s id = changed-sound s (isCurve id) (λ _. freeCurve) (λ _ _ e. impossible e) (λ _ _. refl)
 
 -- d falls
 moved-in-range : (curve : Curve) (moved : ℕ) → curveInRange curve ≡ true → curveInRange (movedBy curve moved) ≡ true
@@ -52,8 +52,8 @@ moved-in-range curve moved e =
   where
     rest : (a b b′ c d : Bool) → (b ≡ true → b′ ≡ true) → (a && b && c && d) ≡ true → (a && b′ && c && d) ≡ true
     rest true true b′ c d h e = rw (h refl) e
-    rest true false b′ c d h e = never e
-    rest false b b′ c d h e = never e
+    rest true false b′ c d h e = impossible e
+    rest false b b′ c d h e = impossible e
 
 curves-moved : (curves : List Curve) → CurvesSound curves → (moved : ℕ) → CurvesSound (movedAll moved curves)
 curves-moved curves s moved =
@@ -100,7 +100,7 @@ module _ (length : ℕ) where
         → (section .held ≡ true) × (onward section .id ≡ section .id)
     onward-holds section =
         cond-by (λ new. new .held ≡ true → (section .held ≡ true) × (new .id ≡ section .id)) (reaches section) freeSection
-        (endingSection section (section .ground + moved)) (λ _ e. never e) (λ _ h. (h, refl))
+        (endingSection section (section .ground + moved)) (λ _ e. impossible e) (λ _ h. (h, refl))
 
     onward-sound : (section : Section) → isSectionSound length section ≡ true → isSectionSound length (onward section) ≡ true
     onward-sound section e =

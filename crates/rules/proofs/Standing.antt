@@ -21,7 +21,8 @@ use Rattle.rules.specs.declared.Seen.{Seen}
 use Rattle.rules.specs.declared.Reading.{Reading}
 use Rattle.rules.specs.declared.Stm.{Stm}
 use Rattle.rules.proofs.Answers.{after-other}
-use Rattle.rules.proofs.Tests.{both, second-fails, code-is}
+use Rattle.rules.proofs.Tests.{both, second-fails}
+use Rattle.rules.proofs.Told.{code-is}
 use Rattle.rules.proofs.Ordering.{brakes-after, since-after, since-seen, ByOther, unchanged, orders, brakes-by-other, stands-added, ordered-and-released, ordered-in-failure, others-drop-nothing}
 
 -- ---- any list of commands

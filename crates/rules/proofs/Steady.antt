@@ -11,8 +11,8 @@ use Rattle.rules.specs.Table.{stands}
 use Rattle.rules.specs.Checks.{isDrop}
 use Rattle.rules.specs.Releases.{isHalt, isBraked, sinceAt, rolledOn, rollAt, isRolled, notedBrakes}
 use Rattle.rules.specs.Releases.{serviceFails, causesAt, addedBrakes, leftBrakes, releasedBrakes}
-use Rattle.rules.specs.Steps.{withState, withBrakes, isInsufficient, seenWith, seenOf, seenIn}
-use Rattle.rules.specs.Steps.{moves, measures, notes, adds, releases, isFresh, supervised, reportedIn}
+use Rattle.rules.specs.Odometer.{withState, withBrakes, isInsufficient, seenWith, seenOf, seenIn}
+use Rattle.rules.specs.Odometer.{moves, measures, notes, adds, releases, isFresh, supervised, reportedIn}
 use Rattle.rules.specs.TwoRuns.{TrainsCompared}
 use Rattle.rules.specs.declared.State.{State}
 use Rattle.rules.specs.declared.Cause.{Cause}
@@ -104,8 +104,8 @@ module _ {r r′ : Reading} (readings : ReadingsBelow r r′) where
     aimed = or-implies (below .aimed) halts;
     landslide = or-implies (below .landslide) halts;
     stop = λ stood.
-      let (same, noted) = below .stop stood in
-      (same, or-implies noted (brakes-alike (train .full) (train′ .full) same));
+        let (same, noted) = below .stop stood in
+        (same, or-implies noted (brakes-alike (train .full) (train′ .full) same));
   }
 
   notes-below : {u w : Stm} → Below u w → Below (notes r u) (notes r′ w)
@@ -209,8 +209,8 @@ module _ (loss text : Bool) {u w : Stm} (below : Below u w) (still : isRolled (u
         train = below .train;
         track = below .track;
         brakes =
-          brakes-settled (seen-below below still) (u .train) (w .train) (isDrop (u .feedback)) (isDrop (w .feedback)) loss text
-          (below .brakes) (stop-noted below) (rw e at sound);
+            brakes-settled (seen-below below still) (u .train) (w .train) (isDrop (u .feedback)) (isDrop (w .feedback)) loss text
+            (below .brakes) (stop-noted below) (rw e at sound);
         feedback = below .feedback;
         kept = below .kept;
       })

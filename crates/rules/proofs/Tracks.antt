@@ -1,7 +1,7 @@
 -- Two tracks, of which the second is the stricter by id: a report keeps that. Assumes nothing.
 use Prim.Native.Nat.{ℕ}
 use mathlib.Core.Path.{_≡_, refl, sym, _∙_, ap, ap₂, subst₂}
-use mathlib.Core.Bool.{Bool, true, false, _&&_, false≢true, and-eq-true-iff}
+use mathlib.Core.Bool.{Bool, true, false, false≢true, and-eq-true-iff, _&&_}
 use mathlib.Core.List.{List, [], _∷_, map, zipWith, Memᴰ·cast, Memᴰ·map, Memᴰ·of-map}
 use native.Mathlib.Omega.{arith}
 use lib.Dec.{eqb}
@@ -13,7 +13,7 @@ use Rattle.curve.specs.Places.{judgedAll, notedAll}
 use Rattle.curve.specs.Claims.{Stricter}
 use Rattle.rules.specs.Places.{isCurve, holdsCurve, movedSection, movedTrack}
 use Rattle.rules.specs.Speeds.{brakingOf, judgedNow}
-use Rattle.rules.specs.Steps.{notedTrack}
+use Rattle.rules.specs.Odometer.{notedTrack}
 use Rattle.rules.specs.TwoRuns.{Holds, HoldsSection, TracksCompared}
 use Rattle.rules.specs.declared.Train.{Train}
 use Rattle.rules.specs.declared.Section.{Section}
@@ -27,7 +27,7 @@ use Rattle.rules.proofs.Monotone.{any-in, any-from}
 pub record CurvesBelow (curves curves′ : List Curve) : Type 0 where
   pub partner : (curve : Curve) → Holds curves curve → (curve′ : Curve) × Holds curves′ curve′ × (curve′ .id ≡ curve .id)
   pub stricter :
-    (curve curve′ : Curve) → Holds curves curve → Holds curves′ curve′ → curve′ .id ≡ curve .id → Stricter curve curve′
+      (curve curve′ : Curve) → Holds curves curve → Holds curves′ curve′ → curve′ .id ≡ curve .id → Stricter curve curve′
 
 -- each held section of the first is held just so by the second
 abbrev pub SectionsBelow : List Section → List Section → Type 0
@@ -76,24 +76,25 @@ module _ {change : Curve → Curve} (keeps : Keeps change) where
   held-before : (curves : List Curve) {curve : Curve} → Holds (map change curves) curve
       → (before : Curve) × Holds curves before × (change before ≡ curve) × (before .id ≡ curve .id)
   held-before curves holds =
-      let (before, place, e) = Memᴰ·of-map change curves (holds .place) in
-      (before,
-      record { place = place; held = sym (keeps .held before) ∙ ap (λ curve. curve .held) e ∙ holds .held },
-      e,
-      sym (keeps .id before) ∙ ap (λ curve. curve .id) e)
+      let (before, place, e) = Memᴰ·of-map change curves (holds .place) in (
+        before,
+        record { place = place; held = sym (keeps .held before) ∙ ap (λ curve. curve .held) e ∙ holds .held },
+        e,
+        sym (keeps .id before) ∙ ap (λ curve. curve .id) e,
+      )
 
 curves-changed : {change change′ : Curve → Curve} → Keeps change → Keeps change′
     → ((curve curve′ : Curve) → Stricter curve curve′ → Stricter (change curve) (change′ curve′))
     → {curves curves′ : List Curve} → CurvesBelow curves curves′ → CurvesBelow (map change curves) (map change′ curves′)
 curves-changed {change′ = change′} keeps keeps′ h {curves} {curves′} below = record {
   partner = λ curve holds.
-    let (before, was, e, id) = held-before keeps curves holds in
-    let (before′, was′, same) = below .partner before was in
-    (change′ before′, held-changed keeps′ was′, keeps′ .id before′ ∙ same ∙ id);
+      let (before, was, e, id) = held-before keeps curves holds in
+      let (before′, was′, same) = below .partner before was in
+      (change′ before′, held-changed keeps′ was′, keeps′ .id before′ ∙ same ∙ id);
   stricter = λ curve curve′ holds holds′ same.
-    let (before, was, e, id) = held-before keeps curves holds in
-    let (before′, was′, e′, id′) = held-before keeps′ curves′ holds′ in
-    subst₂ Stricter e e′ (h before before′ (below .stricter before before′ was was′ (id′ ∙ same ∙ sym id)));
+      let (before, was, e, id) = held-before keeps curves holds in
+      let (before′, was′, e′, id′) = held-before keeps′ curves′ holds′ in
+      subst₂ Stricter e e′ (h before before′ (below .stricter before before′ was was′ (id′ ∙ same ∙ sym id)));
 }
 
 -- ---- ground moved
@@ -163,9 +164,9 @@ tracks-noted train train′ kept kept′ {track} {track′} below =
     let braking′ = brakingOf train′ (kept′ .halka) in
     record {
       curves =
-        rw (noted-is braking (kept .speed) (track .curves), noted-is braking′ (kept′ .speed) (track′ .curves))
-        (curves-changed (noted-keeps braking (kept .speed)) (noted-keeps braking′ (kept′ .speed))
-        (noted-stricter braking braking′ (kept .speed) (kept′ .speed)) (below .curves));
+          rw (noted-is braking (kept .speed) (track .curves), noted-is braking′ (kept′ .speed) (track′ .curves))
+          (curves-changed (noted-keeps braking (kept .speed)) (noted-keeps braking′ (kept′ .speed))
+          (noted-stricter braking braking′ (kept .speed) (kept′ .speed)) (below .curves));
       sections = below .sections;
       forty = below .forty;
     }

@@ -12,7 +12,7 @@ use Rattle.rules.specs.Operands.{trainInRange}
 use Rattle.rules.specs.Places.{anyOf}
 use Rattle.rules.specs.Table.{noCauses, anyStands}
 use Rattle.rules.specs.Releases.{freshBrakes}
-use Rattle.rules.specs.Steps.{withTrack, withBrakes}
+use Rattle.rules.specs.Odometer.{withTrack, withBrakes}
 use Rattle.rules.specs.Commands.{longest, freshFeedback, freshKept, freshLast, freshWith, freshStm, noTrain}
 use Rattle.rules.specs.Units.{curvesDiffer, sectionsDiffer, Reached, IsUnit, FreshIsUnit}
 use Rattle.rules.specs.declared.State.{State}
@@ -21,7 +21,7 @@ use Rattle.rules.specs.declared.Track.{Track}
 use Rattle.rules.specs.declared.Brakes.{Brakes}
 use Rattle.rules.specs.declared.Kept.{Kept}
 use Rattle.rules.specs.declared.Stm.{Stm}
-use Rattle.rules.proofs.TestsU.{never}
+use Rattle.rules.proofs.Tests.{impossible}
 use Rattle.rules.proofs.SoundTracks.{TrackSound, track-fresh}
 use Rattle.rules.proofs.Counts.{BrakesSound, brakes-fresh}
 use Rattle.rules.proofs.Feedback.{reached-fresh}
@@ -104,7 +104,7 @@ with-brakes stm b brakes s = record { range = b .range; places = b .places; coun
 
 pub fresh-at : (state : State) (phase : Phase) → (isState State.DA state ≡ true → isSet phase ≡ true) → At state freshBrakes phase
 unfolding freshBrakes noCauses anyStands anyOf
-fresh-at state phase set = record { braking = λ e. never e; failed = λ e. never e; reference = set }
+fresh-at state phase set = record { braking = λ e. impossible e; failed = λ e. impossible e; reference = set }
 
 pub fresh-parts : (started : Bool) (train : Train) → (started ≡ true → trainInRange train ≡ true) → Parts (freshWith started train)
 unfolding freshWith freshKept
@@ -116,9 +116,9 @@ fresh-parts started train range = record {
     reached = reached-fresh train;
     speed = refl;
   };
-  at = fresh-at State.DE (freshFeedback .phase) (λ e. never e);
+  at = fresh-at State.DE (freshFeedback .phase) (λ e. impossible e);
 }
 
 pub fresh-is-unit : FreshIsUnit
 unfolding freshStm freshWith freshLast
-fresh-is-unit = parts-unit freshStm (fresh-parts false noTrain (λ e. never e)) refl refl
+fresh-is-unit = parts-unit freshStm (fresh-parts false noTrain (λ e. impossible e)) refl refl

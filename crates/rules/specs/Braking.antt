@@ -10,12 +10,11 @@ use Rattle.rules.specs.Operands.{codeByte, operandsOf, readingOf}
 use Rattle.rules.specs.Table.{stands, orderedAt, orderedBy, isReleasable, addedCauses}
 use Rattle.rules.specs.Checks.{isDrop}
 use Rattle.rules.specs.Releases.{isHalt, serviceFails}
-use Rattle.rules.specs.Steps.{seenIn, moves, measures, notes}
+use Rattle.rules.specs.Odometer.{seenIn, moves, measures, notes}
 use Rattle.rules.specs.Runs.{Sent, answerTo, stateAfter, stateAtEnd, isAccepted, noneAccepted, isOf, freshens}
 use Rattle.rules.specs.declared.Code.{Code}
 use Rattle.rules.specs.declared.State.{State}
 use Rattle.rules.specs.declared.Cause.{Cause}
-use Rattle.rules.specs.declared.Causes.{Causes}
 use Rattle.rules.specs.declared.Stm.{Stm}
 use Rattle.rules.specs.declared.Reading.{Reading}
 use Rattle.rules.specs.declared.Seen.{Seen}

@@ -1,7 +1,6 @@
 -- The whole call: answer, next state and report area, for every state, every command bytes and every area (01, "Answers").
 use Prim.Native.Nat.{ℕ}
 use mathlib.Core.List.{List}
-use lib.ListN.{length}
 use Rattle.rules.specs.Commands.{acceptedOf}
 use Rattle.rules.specs.Refusals.{answerOf}
 use Rattle.rules.specs.declared.Answer.{Answer}

@@ -1,6 +1,6 @@
 -- The two brake checks (01, "Causes and release").
 use Prim.Native.Nat.{ℕ, _+_}
-use mathlib.Core.Bool.{Bool, true, false, cond, not, _&&_, _||_}
+use mathlib.Core.Bool.{Bool, false, cond, not, _&&_, _||_}
 use lib.Dec.{leb}
 use lib.Ieee.{le}
 use Rattle.pressure.specs.declared.Measured.{Measured}

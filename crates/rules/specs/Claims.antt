@@ -1,11 +1,10 @@
 -- What holds of the parts of the rules: statements, proved in proofs/.
 use mathlib.Core.Path.{_≡_}
 use Prim.Native.Nat.{ℕ, zero, suc, _+_, _*_, _≤_, _<_}
-use mathlib.Core.Bool.{Bool, true, false}
+use mathlib.Core.Bool.{true, false}
 use mathlib.Core.List.{List, [], _∷_, map, zipWith, List·Memᴰ}
 use lib.Dec.{eqb}
 use Rattle.wire.specs.Codes.{commands}
-use Rattle.wire.specs.declared.codes.Row.{Row}
 use Rattle.curve.specs.declared.Curve.{Curve}
 use Rattle.curve.specs.declared.Judged.{Judged}
 use Rattle.rules.specs.Numbers.{codeNumber, codeOf}

@@ -14,12 +14,11 @@ use Rattle.rules.specs.Numbers.{codeOf, stateOf}
 use Rattle.rules.specs.Operands.{codeByte, operandsOf, trainOf, readingOf, curveOf, sectionOf}
 use Rattle.rules.specs.Places.{copies, freshTrack, withCurves, withSections, withForty, givenCurve, endedCurve, givenSection, endedSection}
 use Rattle.rules.specs.Releases.{freshBrakes, brakesBy}
-use Rattle.rules.specs.Steps.{withState, withTrack, withBrakes, reportedIn}
+use Rattle.rules.specs.Odometer.{withState, withTrack, withBrakes, reportedIn}
 use Rattle.rules.specs.Reports.{reportOf}
 use Rattle.rules.specs.declared.Code.{Code}
 use Rattle.rules.specs.declared.State.{State}
 use Rattle.rules.specs.declared.Train.{Train}
-use Rattle.rules.specs.declared.Track.{Track}
 use Rattle.rules.specs.declared.Kept.{Kept}
 use Rattle.rules.specs.declared.Last.{Last}
 use Rattle.rules.specs.declared.Stm.{Stm}

@@ -5,7 +5,7 @@ pub mod Speeds
 pub mod Table
 pub mod Checks
 pub mod Releases
-pub mod Steps
+pub mod Odometer
 pub mod Shows
 pub mod Reports
 pub mod Commands

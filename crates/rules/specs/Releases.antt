@@ -1,10 +1,9 @@
 -- What brakes, through an odometer report in DA and through commands 30 and 32 (01, "Causes and release").
 use Prim.Native.Nat.{ℕ, _+_, _*_, min}
-use mathlib.Core.Bool.{Bool, true, false, cond, not, _&&_, _||_}
+use mathlib.Core.Bool.{Bool, false, cond, not, _&&_, _||_}
 use lib.Dec.{eqb, ltb}
 use lib.IntN.{pos, _*ℤ_}
 use lib.Signed.{leZ}
-use Rattle.rules.specs.Numbers.{isCode}
 use Rattle.rules.specs.Table.{stands, noCauses, standsWith, anyStands, orderedAt, orderedBy, isStop, addedCauses, leftCauses}
 use Rattle.rules.specs.Checks.{checkedAt, failsAt, checkedBy, checkLeft}
 use Rattle.rules.specs.declared.Code.{Code}
@@ -99,10 +98,10 @@ addedBrakes train dropped s b = record {
   causes = causesAt train dropped s b;
   since = b .since;
   service =
-    checkedAt (anyStands (b .causes)) (anyStands (causesAt train dropped s b)) (train .times .brake) dropped (b .service);
+      checkedAt (anyStands (b .causes)) (anyStands (causesAt train dropped s b)) (train .times .brake) dropped (b .service);
   emergency =
-    checkedAt (standsWith Order.Emergency (b .causes)) (standsWith Order.Emergency (causesAt train dropped s b)) (train .check)
-    dropped (b .emergency);
+      checkedAt (standsWith Order.Emergency (b .causes)) (standsWith Order.Emergency (causesAt train dropped s b)) (train .check)
+      dropped (b .emergency);
   roll = b .roll;
   drift = b .drift || serviceFails train dropped b;
   failed = b .failed || emergencyFails train dropped b;
@@ -145,10 +144,10 @@ brakesBy code which b = record {
   causes = addedCauses (orderedBy code which) (b .causes);
   since = sinceBy code which (b .since);
   service =
-    checkedBy (anyStands (b .causes)) (anyStands (addedCauses (orderedBy code which) (b .causes))) (b .service);
+      checkedBy (anyStands (b .causes)) (anyStands (addedCauses (orderedBy code which) (b .causes))) (b .service);
   emergency =
-    checkedBy (standsWith Order.Emergency (b .causes)) (standsWith Order.Emergency (addedCauses (orderedBy code which) (b .causes)))
-    (b .emergency);
+      checkedBy (standsWith Order.Emergency (b .causes)) (standsWith Order.Emergency (addedCauses (orderedBy code which) (b .causes)))
+      (b .emergency);
   roll = b .roll;
   drift = b .drift;
   failed = b .failed;

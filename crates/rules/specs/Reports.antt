@@ -1,10 +1,9 @@
 -- The report (01, "Report").
-use Prim.Native.Nat.{ℕ, _+_, _*_, _^_}
+use Prim.Native.Nat.{ℕ, _+_, _^_}
 use mathlib.Core.Bool.{Bool, true, false, cond, _&&_}
 use mathlib.Core.List.{List, [], _∷_, _++_, map, foldr}
 use Rattle.wire.specs.Numbers.{highByte, lowByte}
 use Rattle.pressure.specs.declared.Measured.{Measured}
-use Rattle.curve.specs.declared.Braking.{Braking}
 use Rattle.curve.specs.declared.Judged.{Judged}
 use Rattle.curve.specs.Boundary.{isReached}
 use Rattle.curve.specs.Intervals.{numberOf}
@@ -13,7 +12,7 @@ use Rattle.rules.specs.Places.{anyOf}
 use Rattle.rules.specs.Speeds.{brakingOf, judgedNow, vmaxOf, permittedSpeed}
 use Rattle.rules.specs.Table.{causes, stands, orderOf, isDropped}
 use Rattle.rules.specs.Shows.{chosen, shownAs, barOf, modeOf}
-use Rattle.rules.specs.Steps.{isInsufficient, seenIn}
+use Rattle.rules.specs.Odometer.{isInsufficient, seenIn}
 use Rattle.rules.specs.declared.State.{State}
 use Rattle.rules.specs.declared.Train.{Train}
 use Rattle.rules.specs.declared.Causes.{Causes}

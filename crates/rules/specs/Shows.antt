@@ -1,6 +1,6 @@
 -- The shown curve, its bar and its mode (01, "Report").
 use Prim.Native.Nat.{ℕ}
-use mathlib.Core.Bool.{Bool, true, false, cond, not, _&&_, _||_}
+use mathlib.Core.Bool.{Bool, false, cond, not, _&&_, _||_}
 use mathlib.Core.List.{List, [], _∷_, zipWith}
 use lib.Dec.{eqb, ltb}
 use Rattle.curve.specs.declared.Curve.{Curve}

@@ -54,11 +54,11 @@ pub record HoldsSection (sections : List Section) (section : Section) : Type 0 w
 pub record TracksCompared (track track′ : Track) : Type 0 where
   pub ids : (id : ℕ) → holdsCurve id (track .curves) ≡ true → holdsCurve id (track′ .curves) ≡ true
   pub curves :
-    (curve curve′ : Curve) → Holds (track .curves) curve → Holds (track′ .curves) curve′ → curve′ .id ≡ curve .id
-    → Stricter curve curve′
+      (curve curve′ : Curve) → Holds (track .curves) curve → Holds (track′ .curves) curve′ → curve′ .id ≡ curve .id
+      → Stricter curve curve′
   pub past :
-    (curve curve′ : Curve) → Holds (track .curves) curve → Holds (track′ .curves) curve′ → curve′ .id ≡ curve .id
-    → curve′ .past ≡ curve .past
+      (curve curve′ : Curve) → Holds (track .curves) curve → Holds (track′ .curves) curve′ → curve′ .id ≡ curve .id
+      → curve′ .past ≡ curve .past
   pub sections : (section : Section) → HoldsSection (track .sections) section → HoldsSection (track′ .sections) section
   pub forty : track′ .forty ≡ track .forty
 
@@ -143,8 +143,8 @@ intervalIn stm curve = intervalOf curve (brakingOf (stm .train) (stm .kept .halk
 pub record NotMilder (m n : Moment) : Type 0 where
   pub permitted : permittedIn (n .area) ≤ permittedIn (m .area)
   pub interval :
-    (curve curve′ : Curve) → Holds (m .stm .track .curves) curve → Holds (n .stm .track .curves) curve′ → curve′ .id ≡ curve .id
-    → rankOf (intervalIn (m .stm) curve) ≤ rankOf (intervalIn (n .stm) curve′)
+      (curve curve′ : Curve) → Holds (m .stm .track .curves) curve → Holds (n .stm .track .curves) curve′ → curve′ .id ≡ curve .id
+      → rankOf (intervalIn (m .stm) curve) ≤ rankOf (intervalIn (n .stm) curve′)
   pub order : orderIn (m .area) ≤ orderIn (n .area)
 
 -- "at every report not refused"

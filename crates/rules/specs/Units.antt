@@ -1,8 +1,8 @@
 -- What is called a unit (01, "The buyer's note"): "any state with its commands' figures in range, distances, sums and counts as
 -- commands can leave them, no curve id and no section id held twice and, in DA, a reference pressure".
 use mathlib.Core.Path.{_≡_}
-use Prim.Native.Nat.{ℕ, _*_, _≤_, _<_}
-use mathlib.Core.Bool.{Bool, true, false, cond, not, _&&_, _||_}
+use Prim.Native.Nat.{ℕ, _*_}
+use mathlib.Core.Bool.{Bool, true, cond, not, _&&_, _||_}
 use mathlib.Core.List.{List, [], _∷_}
 use lib.Dec.{eqb, leb, ltb}
 use lib.IntN.{ℤ}
@@ -97,7 +97,7 @@ pub record IsUnit (stm : Stm) : Type 0 where
   -- "counts as commands can leave them"
   pub service : isCheckSound (anyStands (stm .brakes .causes)) (stm .train .times .brake) (stm .brakes .service) ≡ true
   pub emergency :
-    isCheckSound (standsWith Order.Emergency (stm .brakes .causes)) (stm .train .check) (stm .brakes .emergency) ≡ true
+      isCheckSound (standsWith Order.Emergency (stm .brakes .causes)) (stm .train .check) (stm .brakes .emergency) ≡ true
   pub roll : isRollSound (stm .brakes .roll) ≡ true
   -- a cause stands, and a brake fault is shown, only where brakes are ordered: in DA, and kept in FA
   pub braking : anyStands (stm .brakes .causes) ≡ true → (isState State.DA (stm .control .state) || isState State.FA (stm .control .state)) ≡ true

@@ -1,7 +1,7 @@
 -- An odometer report (01, "Causes and release": "An odometer report in DA moves, measures, adds causes, then releases. In HS it moves
 -- and measures, in DE and CS it only measures; each keeps its figures and buttons.").
 use Prim.Native.Nat.{ℕ}
-use mathlib.Core.Bool.{Bool, true, cond, not, _&&_}
+use mathlib.Core.Bool.{Bool, cond, not, _&&_}
 use mathlib.Core.List.{List}
 use lib.Ieee.{lt}
 use Rattle.pressure.specs.declared.Measured.{Measured}
@@ -16,7 +16,6 @@ use Rattle.rules.specs.Speeds.{judgedNow, vmaxOf}
 use Rattle.rules.specs.Checks.{isDrop}
 use Rattle.rules.specs.Releases.{isRolled, notedBrakes, addedBrakes, releasedBrakes}
 use Rattle.rules.specs.declared.State.{State}
-use Rattle.rules.specs.declared.Control.{Control}
 use Rattle.rules.specs.declared.Train.{Train}
 use Rattle.rules.specs.declared.Track.{Track}
 use Rattle.rules.specs.declared.Since.{Since}
