@@ -68,7 +68,8 @@ next-told false true next r e = impossible (sym r)
 next-told false false true r e = refl
 next-told false false false r e = impossible (sym e)
 
-alive-told : (failed start repeat : Bool) → repeat ≡ false → (failed && not start && not repeat) ≡ false → (start || not failed) ≡ true
+alive-told : (failed start repeat : Bool) → repeat ≡ false → (failed && not start && not repeat) ≡ false
+    → (start || not failed) ≡ true
 alive-told failed true repeat r e = refl
 alive-told false false repeat r e = refl
 alive-told true false true r e = impossible (sym r)
@@ -116,7 +117,8 @@ unfolding answerOf
 accepted-passed stm command area e = by-form (formOf command area) stm command e
 
 -- the next state, by the answer
-next-accepted : (answer : Answer) (command : List ℕ) (stm : Stm) → isAccepted answer ≡ true → nextFor answer command stm ≡ acceptedOf command stm
+next-accepted : (answer : Answer) (command : List ℕ) (stm : Stm) → isAccepted answer ≡ true
+    → nextFor answer command stm ≡ acceptedOf command stm
 next-accepted Answer.Accepted command stm e = refl
 next-accepted Answer.Again command stm e = impossible e
 next-accepted Answer.WrongArea command stm e = impossible e

@@ -10,7 +10,7 @@ use Rattle.rules.specs.Pairs.{farCurve, nearCurve, harderPair}
 use Rattle.rules.specs.declared.Stm.{Stm}
 use Rattle.rules.proofs.Computing.{computing}
 use Rattle.rules.proofs.LedUnits.{trains, standing, led, led-weaker}
-use Rattle.rules.proofs.Comparing.{one-curve, faster, Meets, units}
+use Rattle.rules.proofs.Pairs.{one-curve, faster, Meets, units}
 
 abbrev far : Stm
 far = stateAtEnd (standing 700 30 13) farCurve

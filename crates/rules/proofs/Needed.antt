@@ -13,7 +13,7 @@ use Rattle.rules.specs.Pairs.{gearPair, stopPassed, stopsPair, dropBetwe
 use Rattle.rules.specs.declared.Stm.{Stm}
 use Rattle.rules.proofs.Computing.{computing}
 use Rattle.rules.proofs.LedUnits.{trains, standing, led, led-weaker, led-short-brake, led-short-check}
-use Rattle.rules.proofs.Comparing.{same-curve, itself, faster, Meets, concluded}
+use Rattle.rules.proofs.Pairs.{same-curve, itself, faster, Meets, concluded}
 
 -- ---- no neutral
 

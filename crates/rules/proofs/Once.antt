@@ -6,7 +6,7 @@ use mathlib.Core.List.{List, [], _∷_, _++_}
 use native.Mathlib.Omega.{arith}
 use lib.Dec.{eqb}
 use lib.ListN.{length}
-use borrow.Author.Tests.{eqb-true, not-true}
+use borrow.Author.Tests.{not-true}
 use Rattle.wire.specs.Numbers.{byteAt, number}
 use Rattle.wire.specs.Form.{reportLength, formOf}
 use Rattle.wire.specs.declared.form.Form.{Form}
@@ -27,6 +27,7 @@ use Rattle.rules.specs.declared.State.{State}
 use Rattle.rules.specs.declared.Stm.{Stm}
 use Rattle.laws.proofs.Lists.{never}
 use Rattle.rules.proofs.Tests.{impossible, both, neither}
+use Rattle.rules.proofs.Repeats.{number-kept, next-number}
 use Rattle.rules.proofs.Answers.{Passed, passed, after-accepted, after-other}
 
 pub state-changes-at-zero-only : StateChangesAtZeroOnly
@@ -103,19 +104,22 @@ entered-started State.HS stm = refl
 entered-started State.DA stm = refl
 entered-started State.FA stm = refl
 
+was-started : (stm : Stm) → (stm .control .started || false) ≡ true → stm .control .started ≡ true
+was-started stm e = sym (or-false (stm .control .started)) ∙ e
+
 carried-started : (code : Code) (s : List ℕ) (stm : Stm) → (stm .control .started || isCode Code.Start code) ≡ true
     → carriedOut code s stm .control .started ≡ true
 unfolding freshWith stopped
 carried-started Code.Start s stm e = refl
-carried-started Code.ChangeState s stm e = entered-started (stateOf (byteAt s 0)) stm ∙ sym (or-false (stm .control .started)) ∙ e
-carried-started Code.Odometer s stm e = reported-started (stm .control .state) (readingOf s) stm ∙ sym (or-false (stm .control .started)) ∙ e
-carried-started Code.NewCurve s stm e = sym (or-false (stm .control .started)) ∙ e
-carried-started Code.EndCurve s stm e = sym (or-false (stm .control .started)) ∙ e
-carried-started Code.NewSection s stm e = sym (or-false (stm .control .started)) ∙ e
-carried-started Code.EndSection s stm e = sym (or-false (stm .control .started)) ∙ e
-carried-started Code.StopPassed s stm e = sym (or-false (stm .control .started)) ∙ e
-carried-started Code.Proceed s stm e = sym (or-false (stm .control .started)) ∙ e
-carried-started Code.BaliseError s stm e = sym (or-false (stm .control .started)) ∙ e
+carried-started Code.ChangeState s stm e = entered-started (stateOf (byteAt s 0)) stm ∙ was-started stm e
+carried-started Code.Odometer s stm e = reported-started (stm .control .state) (readingOf s) stm ∙ was-started stm e
+carried-started Code.NewCurve s stm e = was-started stm e
+carried-started Code.EndCurve s stm e = was-started stm e
+carried-started Code.NewSection s stm e = was-started stm e
+carried-started Code.EndSection s stm e = was-started stm e
+carried-started Code.StopPassed s stm e = was-started stm e
+carried-started Code.Proceed s stm e = was-started stm e
+carried-started Code.BaliseError s stm e = was-started stm e
 
 accepted-started : (stm : Stm) (command : List ℕ) → Passed stm command → acceptedOf command stm .control .started ≡ true
 unfolding acceptedOf remembered
@@ -176,26 +180,24 @@ sent-again-is-again stm x y e same whole =
 
 -- ---- the numbers
 
--- the number of a command is that of its kept bytes
+-- the number of an accepted command is that of its kept bytes
 accepted-number : (stm : Stm) (command : List ℕ) → numberOf (acceptedOf command stm .last .bytes) ≡ numberOf command
-unfolding acceptedOf remembered padded number
-accepted-number stm command = refl
+unfolding acceptedOf remembered
+accepted-number stm command = number-kept command
 
 -- an accepted command that is no start is numbered one more than the last
 accepted-next : (stm : Stm) (command : List ℕ) → Passed stm command → isStart command ≡ false
     → numberOf command ≡ numberOf (stm .last .bytes) + 1
-unfolding isNext
-accepted-next stm command p e = eqb-true _ _ (rw e at (p .next))
+accepted-next stm command p e = next-number stm command (rw e at (p .next))
 
 -- one command before a run
 follow-step : (stm : Stm) (x : Sent) (numbers : List ℕ) (accepted : Bool)
     → isAccepted (answerTo stm x) ≡ accepted → not (accepted && isStart (x .command)) ≡ true
     → Follow (numberOf (stateAfter stm x .last .bytes)) numbers
     → Follow (numberOf (stm .last .bytes)) (cond accepted (numberOf (x .command) ∷ numbers) numbers)
-follow-step stm x numbers true e f follow = (
-  accepted-next stm (x .command) (passed stm x e .1) (not-true _ f),
-  subst (λ n. Follow n numbers) (ap (λ s. numberOf (s .last .bytes)) (after-accepted stm x e) ∙ accepted-number stm (x .command)) follow,
-)
+follow-step stm x numbers true e f follow =
+    let number = ap (λ s. numberOf (s .last .bytes)) (after-accepted stm x e) ∙ accepted-number stm (x .command) in
+    (accepted-next stm (x .command) (passed stm x e .1) (not-true _ f), subst (λ n. Follow n numbers) number follow)
 follow-step stm x numbers false e f follow = subst (λ s. Follow (numberOf (s .last .bytes)) numbers) (after-other stm x e) follow
 
 pub numbers-follow : NumbersFollow

@@ -85,7 +85,7 @@ repeated-number stm command e =
     let (started, same) = and-eq-true-iff (stm .control .started) _ .0 e in
     ap numberOf (same-equal (stm .last .bytes) (padded longest command) same) ∙ number-kept command
 
-next-number : (stm : Stm) (command : List ℕ) → isNext stm command ≡ true → numberOf command ≡ numberOf (stm .last .bytes) + 1
+pub next-number : (stm : Stm) (command : List ℕ) → isNext stm command ≡ true → numberOf command ≡ numberOf (stm .last .bytes) + 1
 unfolding isNext
 next-number stm command e = eqb-true (numberOf command) (numberOf (stm .last .bytes) + 1) e
 

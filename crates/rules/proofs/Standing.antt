@@ -126,6 +126,7 @@ module _ {cause : Cause} {note : Since → Bool} {stop : ℕ} (w : WantsHalt cau
   module _ (stm : Stm) (x : Sent) (e : isAccepted (answerTo stm x) ≡ true) (f : freshens (x .command) ≡ false)
       (moving : halts stm (x .command) ≡ false) (waits : Waits (stm .brakes)) where
     unnoted-at : isSupervised stm (x .command) ≡ true → note (seenAt stm (x .command) .since) ≡ false
+    unfolding isHalt
     unnoted-at u =
         let r = readingIn (x .command) in
         rw (

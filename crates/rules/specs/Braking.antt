@@ -9,7 +9,7 @@ use Rattle.rules.specs.Numbers.{codeOf, bitNumber, isState}
 use Rattle.rules.specs.Operands.{codeByte, operandsOf, readingOf}
 use Rattle.rules.specs.Table.{stands, orderedAt, orderedBy, isReleasable, addedCauses}
 use Rattle.rules.specs.Checks.{isDrop}
-use Rattle.rules.specs.Releases.{isHalt, serviceFails}
+use Rattle.rules.specs.Releases.{serviceFails}
 use Rattle.rules.specs.Odometer.{seenIn, moves, measures, notes}
 use Rattle.rules.specs.Runs.{Sent, answerTo, stateAfter, stateAtEnd, isAccepted, noneAccepted, isOf, freshens}
 use Rattle.rules.specs.declared.Code.{Code}
@@ -118,7 +118,7 @@ StopNotesAfresh =
 
 -- and stands until a report with speed 0 and moved 0 is accepted
 abbrev pub halts : Stm → List ℕ → Bool
-halts stm command = isOf Code.Odometer command && isHalt (readingIn command)
+halts stm command = isOf Code.Odometer command && (eqb (readingIn command .speed) 0 && eqb (readingIn command .moved) 0)
 
 abbrev pub StopWantsHalt : Type 0
 StopWantsHalt =

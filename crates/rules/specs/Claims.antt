@@ -51,8 +51,10 @@ abbrev pub AllHeldMeansAll : Type 0
 AllHeldMeansAll =
     (stm : Stm) (x : Sent)
     → answerTo stm x ≡ Answer.AllHeld
-    → (isOf Code.NewCurve (x .command) ≡ true → (curve : Curve) → List·Memᴰ curve (stm .track .curves) → curve .held ≡ true)
-    × (isOf Code.NewSection (x .command) ≡ true → (section : Section) → List·Memᴰ section (stm .track .sections) → section .held ≡ true)
+    → (isOf Code.NewCurve (x .command) ≡ true
+    → (curve : Curve) → List·Memᴰ curve (stm .track .curves) → curve .held ≡ true)
+    × (isOf Code.NewSection (x .command) ≡ true
+    → (section : Section) → List·Memᴰ section (stm .track .sections) → section .held ≡ true)
 
 -- "Ending a section at the front of the train" does not happen: it ends when the ground moved since reaches the train's length
 abbrev pub SectionEndsAtRear : Type 0

@@ -100,7 +100,8 @@ pub record IsUnit (stm : Stm) : Type 0 where
       isCheckSound (standsWith Order.Emergency (stm .brakes .causes)) (stm .train .check) (stm .brakes .emergency) ≡ true
   pub roll : isRollSound (stm .brakes .roll) ≡ true
   -- a cause stands, and a brake fault is shown, only where brakes are ordered: in DA, and kept in FA
-  pub braking : anyStands (stm .brakes .causes) ≡ true → (isState State.DA (stm .control .state) || isState State.FA (stm .control .state)) ≡ true
+  pub braking :
+      anyStands (stm .brakes .causes) ≡ true → (isState State.DA (stm .control .state) || isState State.FA (stm .control .state)) ≡ true
   pub drift : stm .brakes .drift ≡ true → anyStands (stm .brakes .causes) ≡ true
   pub failed : stm .brakes .failed ≡ true → isState State.FA (stm .control .state) ≡ true
   -- "no curve id and no section id held twice"

@@ -8,9 +8,9 @@ use Rattle.rules.specs.Reports.{two, reportWith, reportInDA, reportOutsi
 use Rattle.rules.specs.TwoRuns.{permittedIn, orderIn}
 use Rattle.rules.specs.declared.State.{State}
 use Rattle.rules.specs.declared.Stm.{Stm}
-use Rattle.rules.proofs.Limits.{permitted-no-higher}
-use Rattle.rules.proofs.Causing.{order-no-milder}
-use Rattle.rules.proofs.Steady.{Below}
+use Rattle.rules.proofs.TwoSpeeds.{permitted-no-higher}
+use Rattle.rules.proofs.TwoCauses.{order-no-milder}
+use Rattle.rules.proofs.TwoUnits.{Below}
 
 pub record ReportsBelow (report report′ : List ℕ) : Type 0 where
   pub permitted : permittedIn report′ ≤ permittedIn report

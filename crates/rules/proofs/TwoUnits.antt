@@ -1,6 +1,6 @@
 -- One odometer report at two units, of which the second is the stricter: it stays so. Assumes nothing.
 use Prim.Native.Nat.{ℕ, _≤_}
-use mathlib.Core.Path.{_≡_, refl, sym, _∙_, ap}
+use mathlib.Core.Path.{_≡_, refl, sym, _∙_, ap, ap₂}
 use mathlib.Core.Bool.{Bool, true, false, cond, false≢true}
 use native.Mathlib.Omega.{arith}
 use lib.Dec.{eqb}
@@ -23,9 +23,9 @@ use Rattle.rules.specs.declared.Reading.{Reading}
 use Rattle.rules.specs.declared.Seen.{Seen}
 use Rattle.rules.specs.declared.Stm.{Stm}
 use Rattle.rules.proofs.Monotone.{_⇒_, equal-implies, and-implies, or-implies}
-use Rattle.rules.proofs.Tracks.{TracksBelow, tracks-moved, tracks-noted}
-use Rattle.rules.proofs.Limits.{KeptBelow, vmax-no-higher, curves-still-brake}
-use Rattle.rules.proofs.Causing.{SeenBelow, CausesBelow, causes-after, stop-stood}
+use Rattle.rules.proofs.TwoTracks.{TracksBelow, tracks-moved, tracks-noted}
+use Rattle.rules.proofs.TwoSpeeds.{KeptBelow, vmax-no-higher, curves-still-brake}
+use Rattle.rules.proofs.TwoCauses.{SeenBelow, CausesBelow, causes-after, stop-stood}
 
 -- ---- the two units
 
@@ -218,7 +218,7 @@ module _ (loss text : Bool) {u w : Stm} (below : Below u w) (still : isRolled (u
 -- ---- a report, by the state
 
 fresh-alike : {before before′ now now′ : Bool} → before′ ≡ before → now′ ≡ now → isFresh before′ now′ ≡ isFresh before now
-fresh-alike p q = rw (p, q)
+fresh-alike p q = ap₂ isFresh p q
 
 module _ {r r′ : Reading} (readings : ReadingsBelow r r′) {u w : Stm} (below : Below u w) where
   noted-below : Below (notes r (measures r (moves r u))) (notes r′ (measures r′ (moves r′ w)))

@@ -28,7 +28,7 @@ use Rattle.rules.specs.declared.Track.{Track}
 use Rattle.rules.specs.declared.Kept.{Kept}
 use Rattle.rules.proofs.Monotone.{_⇒_, and-implies, leb-implies, Passing, any-implies}
 use Rattle.rules.proofs.Monotone.{least-within-base, least-within, least-no-more}
-use Rattle.rules.proofs.Tracks.{CurvesBelow, SectionsBelow, TracksBelow}
+use Rattle.rules.proofs.TwoTracks.{CurvesBelow, SectionsBelow, TracksBelow}
 
 -- ---- one curve
 

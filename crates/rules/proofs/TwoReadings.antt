@@ -8,7 +8,7 @@ use Rattle.wire.specs.Numbers.{byteAt, number, signed}
 use Rattle.rules.specs.Operands.{codeByte, numberOf, operandsOf, twoAt, bitOf, readingOf}
 use Rattle.rules.specs.Runs.{Sent}
 use Rattle.rules.specs.TwoRuns.{Faster, InGear}
-use Rattle.rules.proofs.Steady.{ReadingsBelow}
+use Rattle.rules.proofs.TwoUnits.{ReadingsBelow}
 
 -- a number is that of its own bytes
 number-front : (n : ℕ) (s : List ℕ) → number n (take n s) ≡ number n s

@@ -24,12 +24,12 @@ use Rattle.rules.specs.declared.Last.{Last}
 use Rattle.rules.specs.declared.Stm.{Stm}
 use Rattle.rules.proofs.Answers.{after-accepted, after-other}
 use Rattle.rules.proofs.Monotone.{same-implies}
-use Rattle.rules.proofs.Tracks.{tracks-at-first}
-use Rattle.rules.proofs.Limits.{KeptBelow, interval-no-earlier}
-use Rattle.rules.proofs.Steady.{BrakesBelow, Below, reported-below}
-use Rattle.rules.proofs.Written.{ReportsBelow, written-below}
+use Rattle.rules.proofs.TwoTracks.{tracks-at-first}
+use Rattle.rules.proofs.TwoSpeeds.{KeptBelow, interval-no-earlier}
+use Rattle.rules.proofs.TwoUnits.{BrakesBelow, Below, reported-below}
+use Rattle.rules.proofs.TwoReports.{ReportsBelow, written-below}
 use Rattle.rules.proofs.Repeats.{number-kept, accepted-alike}
-use Rattle.rules.proofs.Faster.{same-code, same-number, readings-below}
+use Rattle.rules.proofs.TwoReadings.{same-code, same-number, readings-below}
 
 -- ---- the two units in their runs
 
