@@ -11,29 +11,30 @@ use native.Mathlib.Decide.{ℕ-discrete}
 use lib.Dec.{eqb, leb, ltb}
 use lib.ListN.{length}
 use borrow.Author.Tests.{ltb-true, ltb-false, eqb-true, not-false, le-ltb, le-leb, lt-leb, eq-eqb, ne-eqb}
-use Rattle.laws.proofs.Lists.{_∈_, not-true-false}
+use Rattle.laws.proofs.Lists.{never, _∈_, not-true-false}
 use Rattle.wire.specs.Numbers.{byteAt}
 use Rattle.wire.specs.Codes.{commands}
 use Rattle.wire.specs.declared.form.Form.{Form}
-use Rattle.wire.specs.Form.{formOf}
+use Rattle.wire.specs.Form.{formOf, refusalOf}
 use Rattle.curve.specs.Intervals.{rankOf}
 use Rattle.curve.specs.Places.{permittedHere, leastPermitted}
 use Rattle.curve.specs.declared.Judged.{Judged}
 use Rattle.rules.specs.Numbers.{answerNumber, codeOf}
 use Rattle.rules.specs.Operands.{codeByte, operandsOf}
-use Rattle.rules.specs.Places.{anyOf, allOf, movedSection, allCurvesHeld, allSectionsHeld, holdsCurve, holdsSection}
+use Rattle.rules.specs.Places.{anyOf, allOf, freeSection, endingSection, movedSection, allCurvesHeld, allSectionsHeld, holdsCurve, holdsSection}
 use Rattle.rules.specs.Speeds.{stopSpeed, vmaxOf, permittedSpeed}
 use Rattle.rules.specs.Shows.{candidate, noCandidate, isLower, goesBefore, chosenOf, chosenFrom, chosen}
 use Rattle.rules.specs.Refusals.{Rule, firstOf, rulesFor, findsNoPlace, answerFor, answerOf}
 use Rattle.rules.specs.Calls.{callOf}
 use Rattle.rules.specs.Runs.{Sent, answerTo}
-use Rattle.rules.specs.Claims.{countedTimes, CodesAreTheTable, AllHeldMeansAll, SectionEndsAtRear, VmaxIsLeast, PermittedIsLeast, ShownIsFirst, CheckFailsAtLimit}
+use Rattle.rules.specs.Claims.{countedTimes, CodesAreTheTable, FirstFourAreWire, AllHeldMeansAll, SectionEndsAtRear, VmaxIsLeast, PermittedIsLeast, ShownIsFirst, CheckFailsAtLimit}
 use Rattle.rules.specs.declared.Answer.{Answer}
 use Rattle.rules.specs.declared.Code.{Code}
 use Rattle.rules.specs.declared.Check.{Check}
 use Rattle.rules.specs.declared.Candidate.{Candidate}
+use Rattle.rules.specs.declared.Section.{Section}
 use Rattle.rules.specs.declared.Stm.{Stm}
-use Rattle.rules.proofs.Tests.{both, second-fails, if-used, not-both, either, neither}
+use Rattle.rules.proofs.Tests.{and-both, both, second-fails, if-used, not-both, either, neither}
 use Rattle.rules.proofs.Told.{code-told, code-is}
 
 -- ---- codes
@@ -41,6 +42,14 @@ use Rattle.rules.proofs.Told.{code-told, code-is}
 pub codes-are-the-table : CodesAreTheTable
 unfolding commands
 codes-are-the-table = (refl, code-told)
+
+pub first-four-are-wire : FirstFourAreWire
+unfolding refusalOf
+first-four-are-wire Form.WrongArea n stm command e = cc e
+first-four-are-wire Form.NoBytes n stm command e = cc e
+first-four-are-wire Form.NoCode n stm command e = cc e
+first-four-are-wire Form.WrongLength n stm command e = cc e
+first-four-are-wire Form.Whole n stm command e = absurd (never (cc))
 
 -- ---- refusal 13
 
@@ -112,10 +121,11 @@ all-held-means-all stm x e =
 
 pub section-ends-at-rear : SectionEndsAtRear
 unfolding movedSection
-section-ends-at-rear length moved section h e = (
-  λ l. rw (h, e, lt-leb (100 * length) (section .ground + moved) l),
-  λ l. rw (h, e, le-leb (100 * length) (section .ground + moved) l),
-)
+section-ends-at-rear length moved section h e =
+    let ground = section .ground + moved in
+    let by : Bool → Section = λ ends. cond ends freeSection (endingSection section ground) in
+    let ending = ap (λ t. cond t (by (leb (100 * length) ground)) section) (and-both (section .held) (section .ending) h e) in
+    (λ l. ending ∙ ap by (lt-leb (100 * length) ground l), λ l. ending ∙ ap by (le-leb (100 * length) ground l))
 
 -- ---- speeds
 
@@ -186,11 +196,15 @@ unfolding leastPermitted
 permitted-least [] = refl
 permitted-least (j ∷ js) = ap (min (permittedHere j)) (permitted-least js)
 
-pub permitted-is-least : PermittedIsLeast
+permitted-among : (vmax : ℕ) (judged : List Judged)
+    → permittedSpeed vmax judged ≡ min vmax (foldr min 300 (map permittedHere judged))
 unfolding permittedSpeed
+permitted-among vmax judged = ap (min vmax) (permitted-least judged)
+
+pub permitted-is-least : PermittedIsLeast
 permitted-is-least vmax judged =
     let l = is-least (λ j. j .held) (λ j. j .permitted) 300 vmax judged in
-    rw (permitted-least judged) (
+    rw (permitted-among vmax judged) (
       record { top = l .0 .based; limit = l .0 .limited; curves = l .0 .given },
       λ n u. l .1 n (record { limited = u .limit; based = u .top; given = u .curves }),
     )

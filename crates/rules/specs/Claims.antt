@@ -4,14 +4,18 @@ use Prim.Native.Nat.{ℕ, zero, suc, _+_, _*_, _≤_, _<_}
 use mathlib.Core.Bool.{true, false}
 use mathlib.Core.List.{List, [], _∷_, map, zipWith, List·Memᴰ}
 use lib.Dec.{eqb}
+use mathlib.Core.Option.{some}
 use Rattle.wire.specs.Codes.{commands}
+use Rattle.wire.specs.declared.form.Form.{Form}
+use Rattle.wire.specs.Form.{refusalOf}
 use Rattle.curve.specs.declared.Curve.{Curve}
 use Rattle.curve.specs.declared.Judged.{Judged}
-use Rattle.rules.specs.Numbers.{codeNumber, codeOf}
+use Rattle.rules.specs.Numbers.{answerNumber, codeNumber, codeOf}
 use Rattle.rules.specs.Places.{freeSection, endingSection, movedSection}
 use Rattle.rules.specs.Speeds.{vmaxOf, permittedSpeed}
 use Rattle.rules.specs.Checks.{begins, countedOn, failsNow}
 use Rattle.rules.specs.Shows.{candidate, goesBefore, chosen}
+use Rattle.rules.specs.Refusals.{answerFor}
 use Rattle.rules.specs.Runs.{Sent, answerTo, isOf}
 use Rattle.rules.specs.declared.Answer.{Answer}
 use Rattle.rules.specs.declared.Code.{Code}
@@ -22,7 +26,7 @@ use Rattle.rules.specs.declared.Track.{Track}
 use Rattle.rules.specs.declared.Candidate.{Candidate}
 use Rattle.rules.specs.declared.Stm.{Stm}
 
--- ---- codes
+-- ---- codes and refusals
 
 abbrev pub codes : List Code
 codes =
@@ -43,6 +47,12 @@ abbrev pub CodesAreTheTable : Type 0
 CodesAreTheTable =
     (map (λ row. row .code) commands ≡ map codeNumber codes)
     × ((code : Code) → codeOf (codeNumber code) ≡ code)
+
+-- refusals 1 to 4 have the numbers that the table of codes and lengths gives them
+abbrev pub FirstFourAreWire : Type 0
+FirstFourAreWire =
+    (form : Form) (n : ℕ) (stm : Stm) (command : List ℕ)
+    → refusalOf form ≡ some n → answerNumber (answerFor form stm command) ≡ n
 
 -- ---- places
 
