@@ -24,16 +24,16 @@ use mathlib.Core.Path.{{_≡_, refl}}
 use Prim.Native.Nat.{{ℕ}}
 use mathlib.Core.List.{{List, [], _∷_, _++_}}
 use mathlib.Core.Bool.{{true}}
+use lib.ListN.{{replicate}}
 use Rattle.wire.specs.Form.{{reportLength}}
 use Rattle.wire.specs.Bytes.{{sameBytes}}
 use Rattle.rules.specs.Numbers.{{answerNumber}}
-use Rattle.rules.specs.Places.{{copies}}
 use Rattle.rules.specs.Commands.{{freshStm}}
 use Rattle.rules.specs.Runs.{{Sent, Moment, moments}}
 use Rattle.rules.proofs.Computing.{{computing}}
 
 abbrev send : List ℕ → Sent
-send command = record {{ command = command; area = copies reportLength {untouched} }}
+send command = record {{ command = command; area = replicate reportLength {untouched} }}
 
 abbrev told : List Moment → List ℕ
 told [] = []

@@ -9,12 +9,12 @@ use borrow.Author.Tests.{not-false}
 use Rattle.wire.specs.declared.form.Form.{Form}
 use Rattle.wire.specs.Form.{formOf}
 use Rattle.pressure.specs.Phases.{isSet}
-use Rattle.rules.specs.Numbers.{codeOf, isState}
+use Rattle.rules.specs.Numbers.{codeOf, isState, isAccepted}
 use Rattle.rules.specs.Operands.{codeByte, numberOf, operandsOf, inRange}
 use Rattle.rules.specs.Commands.{acceptedOf}
 use Rattle.rules.specs.Refusals.{isStart, isRepeat, isNext, isAllowed, ordersDA, endsNothing, findsNoPlace, firstOf, rulesFor, answerFor, answerOf}
-use Rattle.rules.specs.Calls.{nextFor, callOf}
-use Rattle.rules.specs.Runs.{Sent, answerTo, stateAfter, isAccepted}
+use Rattle.rules.specs.Calls.{callOf}
+use Rattle.rules.specs.Runs.{Sent, answerTo, stateAfter}
 use Rattle.rules.specs.declared.Answer.{Answer}
 use Rattle.rules.specs.declared.State.{State}
 use Rattle.rules.specs.declared.Stm.{Stm}
@@ -117,48 +117,13 @@ unfolding answerOf
 accepted-passed stm command area e = by-form (formOf command area) stm command e
 
 -- the next state, by the answer
-next-accepted : (answer : Answer) (command : List ℕ) (stm : Stm) → isAccepted answer ≡ true
-    → nextFor answer command stm ≡ acceptedOf command stm
-next-accepted Answer.Accepted command stm e = refl
-next-accepted Answer.Again command stm e = impossible e
-next-accepted Answer.WrongArea command stm e = impossible e
-next-accepted Answer.NoBytes command stm e = impossible e
-next-accepted Answer.NoCode command stm e = impossible e
-next-accepted Answer.WrongLength command stm e = impossible e
-next-accepted Answer.NotStarted command stm e = impossible e
-next-accepted Answer.ZeroNumber command stm e = impossible e
-next-accepted Answer.WrongNumber command stm e = impossible e
-next-accepted Answer.Failed command stm e = impossible e
-next-accepted Answer.OutOfRange command stm e = impossible e
-next-accepted Answer.NotAllowed command stm e = impossible e
-next-accepted Answer.NoReference command stm e = impossible e
-next-accepted Answer.NotHeld command stm e = impossible e
-next-accepted Answer.AllHeld command stm e = impossible e
-
-next-other : (answer : Answer) (command : List ℕ) (stm : Stm) → isAccepted answer ≡ false → nextFor answer command stm ≡ stm
-next-other Answer.Accepted command stm e = impossible (sym e)
-next-other Answer.Again command stm e = refl
-next-other Answer.WrongArea command stm e = refl
-next-other Answer.NoBytes command stm e = refl
-next-other Answer.NoCode command stm e = refl
-next-other Answer.WrongLength command stm e = refl
-next-other Answer.NotStarted command stm e = refl
-next-other Answer.ZeroNumber command stm e = refl
-next-other Answer.WrongNumber command stm e = refl
-next-other Answer.Failed command stm e = refl
-next-other Answer.OutOfRange command stm e = refl
-next-other Answer.NotAllowed command stm e = refl
-next-other Answer.NoReference command stm e = refl
-next-other Answer.NotHeld command stm e = refl
-next-other Answer.AllHeld command stm e = refl
-
 pub after-accepted : (stm : Stm) (x : Sent) → isAccepted (answerTo stm x) ≡ true → stateAfter stm x ≡ acceptedOf (x .command) stm
 unfolding callOf
-after-accepted stm x e = next-accepted (answerOf stm (x .command) (length (x .area))) (x .command) stm e
+after-accepted stm x e = rw e
 
 pub after-other : (stm : Stm) (x : Sent) → isAccepted (answerTo stm x) ≡ false → stateAfter stm x ≡ stm
 unfolding callOf
-after-other stm x e = next-other (answerOf stm (x .command) (length (x .area))) (x .command) stm e
+after-other stm x e = rw e
 
 pub passed : (stm : Stm) (x : Sent) → isAccepted (answerTo stm x) ≡ true
     → (formOf (x .command) (length (x .area)) ≡ Form.Whole) × Passed stm (x .command)

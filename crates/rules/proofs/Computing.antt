@@ -20,8 +20,8 @@ use Rattle.curve.specs.Places.{leastPermitted, anyBrakes}
 use Rattle.rules.specs.Numbers.{codeOf, stateOf}
 use Rattle.rules.specs.Operands.{trainOf, trainInRange, startInRange, readingOf, odometerInRange}
 use Rattle.rules.specs.Operands.{curveOf, curveInRange, newCurveInRange, sectionOf, sectionInRange}
-use Rattle.rules.specs.Places.{anyOf, allOf, freshTrack, placedCurve, givenCurve, endedCurve}
-use Rattle.rules.specs.Places.{placedSection, givenSection, endedSection, movedSection, movedTrack}
+use Rattle.rules.specs.Places.{anyOf, allOf, freshTrack, givenCurve, endedCurve}
+use Rattle.rules.specs.Places.{givenSection, endedSection, movedSection, movedTrack}
 use Rattle.rules.specs.Speeds.{brakingOf, judgedNow, vmaxOf, permittedSpeed}
 use Rattle.rules.specs.Table.{noCauses, curveOrders, standsWith, anyStands, orderOf, isSlow}
 use Rattle.rules.specs.Table.{othersReleasable, isReleasable, addedCauses, isDropped, leftCauses}
@@ -68,7 +68,7 @@ unfolding feedback-computes curves-compute zipWith
     sameBytes
     codeOf stateOf
     trainOf trainInRange startInRange readingOf odometerInRange curveOf curveInRange newCurveInRange sectionOf sectionInRange
-    anyOf allOf freshTrack placedCurve givenCurve endedCurve placedSection givenSection endedSection movedSection movedTrack
+    anyOf allOf freshTrack givenCurve endedCurve givenSection endedSection movedSection movedTrack
     brakingOf judgedNow vmaxOf permittedSpeed
     noCauses curveOrders standsWith anyStands orderOf isSlow othersReleasable isReleasable addedCauses isDropped leftCauses
     isDrop checkedAt failsAt checkedBy checkLeft

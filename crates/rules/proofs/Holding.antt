@@ -7,7 +7,8 @@ use mathlib.Core.List.{List, [], _∷_, map}
 use lib.Dec.{eqb}
 use lib.ListN.{length, length-map}
 use borrow.Author.Tests.{eqb-true, eq-eqb}
-use Rattle.rules.specs.Places.{places, anyOf, allOf}
+use Rattle.rules.specs.Places.{places, anyOf, allOf, placed}
+use Rattle.rules.specs.Units.{differ}
 use Rattle.rules.proofs.Tests.{and-left, and-right, and-both, not-mono, if-made, if-used, cond-by, all-head, all-tail, all-cons, none-passes, all-map}
 
 module _ {A : Type 0} (held : A → Bool) (id : A → ℕ) where
@@ -21,16 +22,6 @@ module _ {A : Type 0} (held : A → Bool) (id : A → ℕ) where
   abbrev pub noneIs : ℕ → List A → Bool
   noneIs n xs = allOf (isElse n) xs
 
-  -- no later place holds what this one holds
-  abbrev pub differ : List A → Bool
-  differ [] = true
-  differ (x ∷ xs) = (not (held x) || noneIs (id x) xs) && differ xs
-
-  -- a new element at the first place that holds none
-  abbrev pub placed : A → List A → List A
-  placed new [] = []
-  placed new (x ∷ xs) = cond (held x) (x ∷ placed new xs) (new ∷ xs)
-
   -- what a changed place holds it held before, under the same id
   abbrev pub HoldsNoMore : (A → A) → Type 0
   HoldsNoMore f = (x : A) → held (f x) ≡ true → (held x ≡ true) × (id (f x) ≡ id x)
@@ -39,14 +30,14 @@ module _ {A : Type 0} (held : A → Bool) (id : A → ℕ) where
   same-id n x e = eqb-true (id x) n (and-right (held x) (eqb (id x) n) e)
 
   -- of the first place and of the rest
-  differs-head : (x : A) (xs : List A) → differ (x ∷ xs) ≡ true → held x ≡ true → noneIs (id x) xs ≡ true
-  differs-head x xs e = if-used (held x) (noneIs (id x) xs) (and-left (not (held x) || noneIs (id x) xs) (differ xs) e)
+  differs-head : (x : A) (xs : List A) → differ held id (x ∷ xs) ≡ true → held x ≡ true → noneIs (id x) xs ≡ true
+  differs-head x xs e = if-used (held x) (noneIs (id x) xs) (and-left (not (held x) || noneIs (id x) xs) (differ held id xs) e)
 
-  differs-tail : (x : A) (xs : List A) → differ (x ∷ xs) ≡ true → differ xs ≡ true
-  differs-tail x xs e = and-right (not (held x) || noneIs (id x) xs) (differ xs) e
+  differs-tail : (x : A) (xs : List A) → differ held id (x ∷ xs) ≡ true → differ held id xs ≡ true
+  differs-tail x xs e = and-right (not (held x) || noneIs (id x) xs) (differ held id xs) e
 
-  differs-cons : (x : A) (xs : List A) → (held x ≡ true → noneIs (id x) xs ≡ true) → differ xs ≡ true → differ (x ∷ xs) ≡ true
-  differs-cons x xs h e = and-both (not (held x) || noneIs (id x) xs) (differ xs) (if-made (held x) (noneIs (id x) xs) h) e
+  differs-cons : (x : A) (xs : List A) → (held x ≡ true → noneIs (id x) xs ≡ true) → differ held id xs ≡ true → differ held id (x ∷ xs) ≡ true
+  differs-cons x xs h e = and-both (not (held x) || noneIs (id x) xs) (differ held id xs) (if-made (held x) (noneIs (id x) xs) h) e
 
   -- ---- a change at each place
 
@@ -59,7 +50,7 @@ module _ {A : Type 0} (held : A → Bool) (id : A → ℕ) where
   none-is-after f keeps n xs e =
       all-map (isElse n) (isElse n) f (λ x. not-mono (isHere n x) (isHere n (f x)) (is-before f keeps n x)) xs e
 
-  map-differs : (f : A → A) → HoldsNoMore f → (xs : List A) → differ xs ≡ true → differ (map f xs) ≡ true
+  map-differs : (f : A → A) → HoldsNoMore f → (xs : List A) → differ held id xs ≡ true → differ held id (map f xs) ≡ true
   map-differs f keeps [] e = refl
   map-differs f keeps (x ∷ xs) e =
       differs-cons (f x) (map f xs)
@@ -68,19 +59,19 @@ module _ {A : Type 0} (held : A → Bool) (id : A → ℕ) where
 
   -- ---- a new element
 
-  length-placed : (new : A) (xs : List A) → length (placed new xs) ≡ length xs
+  length-placed : (new : A) (xs : List A) → length (placed held new xs) ≡ length xs
   length-placed new [] = refl
   length-placed new (x ∷ xs) =
       let rest = length-placed new xs in
-      cond-by (λ l. length l ≡ suc (length xs)) (held x) (x ∷ placed new xs) (new ∷ xs) (λ _. ap suc rest) (λ _. refl)
+      cond-by (λ l. length l ≡ suc (length xs)) (held x) (x ∷ placed held new xs) (new ∷ xs) (λ _. ap suc rest) (λ _. refl)
 
-  all-placed : (p : A → Bool) (new : A) → p new ≡ true → (xs : List A) → allOf p xs ≡ true → allOf p (placed new xs) ≡ true
+  all-placed : (p : A → Bool) (new : A) → p new ≡ true → (xs : List A) → allOf p xs ≡ true → allOf p (placed held new xs) ≡ true
   all-placed p new h [] e = e
   all-placed p new h (x ∷ xs) e =
       let rest = all-tail p x xs e in
       let later = all-placed p new h xs rest in
-      cond-by (λ l. allOf p l ≡ true) (held x) (x ∷ placed new xs) (new ∷ xs)
-      (λ _. all-cons p x (placed new xs) (all-head p x xs e) later)
+      cond-by (λ l. allOf p l ≡ true) (held x) (x ∷ placed held new xs) (new ∷ xs)
+      (λ _. all-cons p x (placed held new xs) (all-head p x xs e) later)
       (λ _. all-cons p new xs h rest)
 
   -- a held place that does not hold the new id has an id that the new element does not have
@@ -89,15 +80,15 @@ module _ {A : Type 0} (held : A → Bool) (id : A → ℕ) where
       not-mono (isHere (id new) x) (isHere (id x) new)
       (λ k. and-both (held x) (eqb (id x) (id new)) h (eq-eqb (id x) (id new) (sym (same-id (id x) new k)))) e
 
-  placed-differs : (new : A) (xs : List A) → noneIs (id new) xs ≡ true → differ xs ≡ true → differ (placed new xs) ≡ true
+  placed-differs : (new : A) (xs : List A) → noneIs (id new) xs ≡ true → differ held id xs ≡ true → differ held id (placed held new xs) ≡ true
   placed-differs new [] h e = e
   placed-differs new (x ∷ xs) h e =
       let none = all-tail (isElse (id new)) x xs h in
       let rest = differs-tail x xs e in
       let later = placed-differs new xs none rest in
       let first = all-head (isElse (id new)) x xs h in
-      cond-by (λ l. differ l ≡ true) (held x) (x ∷ placed new xs) (new ∷ xs)
-      (λ t. differs-cons x (placed new xs)
+      cond-by (λ l. differ held id l ≡ true) (held x) (x ∷ placed held new xs) (new ∷ xs)
+      (λ t. differs-cons x (placed held new xs)
       (λ _. all-placed (isElse (id x)) new (other-id new x t first) xs (differs-head x xs e t)) later)
       (λ _. differs-cons new xs (λ _. none) rest)
 
@@ -137,7 +128,7 @@ module _ {A : Type 0} {held : A → Bool} {id : A → ℕ} {good : A → Bool} {
 
   -- an element of an id that no place holds
   placed-sound : (new : A) → good new ≡ true → anyOf (isHere held id (id new)) xs ≡ false
-      → Sound held id good (placed held id new xs)
+      → Sound held id good (placed held new xs)
   placed-sound new own t = record {
     size = length-placed held id new xs ∙ s .size;
     each = all-placed held id good new own xs (s .each);
@@ -147,9 +138,9 @@ module _ {A : Type 0} {held : A → Bool} {id : A → ℕ} {good : A → Bool} {
   -- a new element: where its id is held, g tells what stands there then
   pub given-sound : (new : A) (g : A → A) → good new ≡ true → ((x : A) → id (g x) ≡ id new) → ((x : A) → good (g x) ≡ true)
       → Sound held id good
-      (cond (anyOf (isHere held id (id new)) xs) (map (λ x. cond (isHere held id (id new) x) (g x) x) xs) (placed held id new xs))
+      (cond (anyOf (isHere held id (id new)) xs) (map (λ x. cond (isHere held id (id new) x) (g x) x) xs) (placed held new xs))
   given-sound new g own same well =
       let is = isHere held id (id new) in
-      cond-by (Sound held id good) (anyOf is xs) (map (λ x. cond (is x) (g x) x) xs) (placed held id new xs)
+      cond-by (Sound held id good) (anyOf is xs) (map (λ x. cond (is x) (g x) x) xs) (placed held new xs)
       (λ _. replaced-sound (id new) g same well)
       (λ t. placed-sound new own t)

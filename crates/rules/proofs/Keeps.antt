@@ -11,7 +11,7 @@ use Rattle.wire.specs.Numbers.{byteAt}
 use Rattle.wire.specs.Form.{reportLength}
 use Rattle.pressure.specs.Phases.{isSet}
 use Rattle.curve.specs.declared.Curve.{Curve}
-use Rattle.rules.specs.Numbers.{isCode, isState, codeOf, stateOf}
+use Rattle.rules.specs.Numbers.{isCode, isState, codeOf, stateOf, isAccepted}
 use Rattle.rules.specs.Operands.{codeByte, operandsOf, within, trainOf, trainInRange, startInRange, readingOf, curveOf, curveInRange, newCurveInRange, sectionOf, sectionInRange, inRange}
 use Rattle.rules.specs.Places.{freshTrack, withCurves, withSections, withForty, givenCurve, endedCurve, givenSection, endedSection}
 use Rattle.rules.specs.Releases.{freshBrakes, brakesBy}
@@ -19,7 +19,7 @@ use Rattle.rules.specs.Odometer.{withState, withTrack, withBrakes}
 use Rattle.rules.specs.Reports.{shownFields, reportWith, reportInDA, reportOutside, reportFor, reportOf}
 use Rattle.rules.specs.Commands.{longest, freshStm, entered, fortyBy, stopped, carriedOut, padded, remembered, acceptedOf}
 use Rattle.rules.specs.Refusals.{isPath, isAllowed, ordersDA}
-use Rattle.rules.specs.Runs.{Sent, answerTo, stateAfter, stateAtEnd, isAccepted}
+use Rattle.rules.specs.Runs.{Sent, answerTo, stateAfter, stateAtEnd}
 use Rattle.rules.specs.Units.{isSectionSound, IsUnit, CallKeepsUnit, EveryRunIsUnit}
 use Rattle.rules.specs.declared.Code.{Code}
 use Rattle.rules.specs.declared.State.{State}

@@ -6,19 +6,19 @@ use mathlib.Core.List.{List, [], _∷_, _++_}
 use native.Mathlib.Omega.{arith}
 use lib.Dec.{eqb}
 use lib.ListN.{length}
-use borrow.Author.Tests.{not-true}
+use borrow.Author.Tests.{not-true, not-false}
 use Rattle.wire.specs.Numbers.{byteAt, number}
 use Rattle.wire.specs.Form.{reportLength, formOf}
 use Rattle.wire.specs.declared.form.Form.{Form}
 use Rattle.wire.proofs.Commands.{whole-area}
 use Rattle.wire.proofs.Equal.{equal-same}
-use Rattle.rules.specs.Numbers.{codeOf, stateOf, isCode, isState}
+use Rattle.rules.specs.Numbers.{isAnswered, codeOf, stateOf, isCode, isState, isAccepted, isRefused}
 use Rattle.rules.specs.Operands.{codeByte, numberOf, operandsOf, readingOf}
 use Rattle.rules.specs.Odometer.{moves, measures, notes, adds, releases, supervised, reportedIn}
 use Rattle.rules.specs.Commands.{freshWith, entered, stopped, carriedOut, padded, longest, remembered, acceptedOf}
 use Rattle.rules.specs.Refusals.{isStart, isRepeat, isNext, rulesFor, answerFor, answerOf}
-use Rattle.rules.specs.Calls.{areaFor, callOf, areaOf}
-use Rattle.rules.specs.Runs.{Sent, Moment, answerTo, stateAfter, momentOf, moments, stateAtEnd, isAccepted, isRefused, noneAccepted}
+use Rattle.rules.specs.Calls.{callOf, areaOf}
+use Rattle.rules.specs.Runs.{Sent, Moment, answerTo, stateAfter, momentOf, moments, stateAtEnd, noneAccepted}
 use Rattle.rules.specs.Once.{StateChangesAtZeroOnly, RefusalLeavesArea, AnswerWritesReport, SentAgainIsAgain, acceptedNumbers, Follow, NumbersFollow, NoneAcceptedTwice, isLeft, thinned, momentsLeft, LeavingOutChangesNothing}
 use Rattle.rules.specs.declared.Answer.{Answer}
 use Rattle.rules.specs.declared.Code.{Code}
@@ -26,7 +26,7 @@ use Rattle.rules.specs.declared.Reading.{Reading}
 use Rattle.rules.specs.declared.State.{State}
 use Rattle.rules.specs.declared.Stm.{Stm}
 use Rattle.laws.proofs.Lists.{never}
-use Rattle.rules.proofs.Tests.{impossible, both, neither}
+use Rattle.rules.proofs.Tests.{both, neither}
 use Rattle.rules.proofs.Repeats.{number-kept, next-number}
 use Rattle.rules.proofs.Answers.{Passed, passed, after-accepted, after-other}
 
@@ -35,47 +35,13 @@ state-changes-at-zero-only stm x e = after-other stm x e
 
 -- ---- the area
 
-area-refused : (answer : Answer) (report area : List ℕ) → isRefused answer ≡ true → areaFor answer report area ≡ area
-area-refused Answer.Accepted report area e = impossible e
-area-refused Answer.Again report area e = impossible e
-area-refused Answer.WrongArea report area e = refl
-area-refused Answer.NoBytes report area e = refl
-area-refused Answer.NoCode report area e = refl
-area-refused Answer.WrongLength report area e = refl
-area-refused Answer.NotStarted report area e = refl
-area-refused Answer.ZeroNumber report area e = refl
-area-refused Answer.WrongNumber report area e = refl
-area-refused Answer.Failed report area e = refl
-area-refused Answer.OutOfRange report area e = refl
-area-refused Answer.NotAllowed report area e = refl
-area-refused Answer.NoReference report area e = refl
-area-refused Answer.NotHeld report area e = refl
-area-refused Answer.AllHeld report area e = refl
-
-area-answered : (answer : Answer) (report area : List ℕ) → isRefused answer ≡ false → areaFor answer report area ≡ report
-area-answered Answer.Accepted report area e = refl
-area-answered Answer.Again report area e = refl
-area-answered Answer.WrongArea report area e = impossible (sym e)
-area-answered Answer.NoBytes report area e = impossible (sym e)
-area-answered Answer.NoCode report area e = impossible (sym e)
-area-answered Answer.WrongLength report area e = impossible (sym e)
-area-answered Answer.NotStarted report area e = impossible (sym e)
-area-answered Answer.ZeroNumber report area e = impossible (sym e)
-area-answered Answer.WrongNumber report area e = impossible (sym e)
-area-answered Answer.Failed report area e = impossible (sym e)
-area-answered Answer.OutOfRange report area e = impossible (sym e)
-area-answered Answer.NotAllowed report area e = impossible (sym e)
-area-answered Answer.NoReference report area e = impossible (sym e)
-area-answered Answer.NotHeld report area e = impossible (sym e)
-area-answered Answer.AllHeld report area e = impossible (sym e)
-
 pub refusal-leaves-area : RefusalLeavesArea
 unfolding areaOf
-refusal-leaves-area stm x e = area-refused (answerTo stm x) (stateAfter stm x .last .report) (x .area) e
+refusal-leaves-area stm x e = rw (not-true (isAnswered (answerTo stm x)) e)
 
 pub answer-writes-report : AnswerWritesReport
 unfolding areaOf
-answer-writes-report stm x e = area-answered (answerTo stm x) (stateAfter stm x .last .report) (x .area) e
+answer-writes-report stm x e = rw (not-false (isAnswered (answerTo stm x)) e)
 
 -- ---- a command sent again
 

@@ -7,13 +7,13 @@ use mathlib.Core.List.{List}
 use borrow.Author.Tests.{leb-true}
 use lib.Dec.{leb}
 use Rattle.wire.specs.Numbers.{byteAt}
-use Rattle.rules.specs.Numbers.{codeOf, stateOf, bitNumber, isCode, isState}
+use Rattle.rules.specs.Numbers.{codeOf, stateOf, bitNumber, isCode, isState, isAccepted}
 use Rattle.rules.specs.Operands.{codeByte, operandsOf, readingOf, within}
 use Rattle.rules.specs.Table.{stands, causesFor, noCauses, orderedBy, isReleasable, addedCauses, pressedFor, isDropped, leftCauses}
 use Rattle.rules.specs.Releases.{freshBrakes, sinceAt, notedBrakes, serviceFails, causesAt, addedBrakes, leftBrakes, releasedBrakes, sinceBy, brakesBy}
 use Rattle.rules.specs.Odometer.{withState, withBrakes, seenWith, seenOf, seenIn, moves, measures, notes, adds, releases, isFresh, supervised, reportedIn}
 use Rattle.rules.specs.Commands.{freshWith, entered, stopped, carriedOut, remembered, acceptedOf}
-use Rattle.rules.specs.Runs.{Sent, answerTo, stateAfter, isAccepted, isOf, ordersCS, freshens}
+use Rattle.rules.specs.Runs.{Sent, answerTo, stateAfter, isOf, ordersCS, freshens}
 use Rattle.rules.specs.Braking.{readingIn, isSupervised, measuredAt, seenAt, orderedNow, releasableNow, freshlyPressed, OrderedAndReleased, OrderedInFailure, OthersDropNothing, OthersOrderFiveToNine, FreshHasNoCause}
 use Rattle.rules.specs.declared.Code.{Code}
 use Rattle.rules.specs.declared.State.{State}

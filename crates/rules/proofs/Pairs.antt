@@ -4,12 +4,13 @@ use Prim.Native.Nat.{ℕ, zero, suc, _≤_}
 use native.Mathlib.Nat.{le-refl}
 use mathlib.Core.Bool.{Bool, true, false, false≢true}
 use mathlib.Core.List.{List, _∷_, List·Memᴰ, List·Memᴰ·head, List·Memᴰ·tail, List·Memᴰ·not-nil}
+use lib.ListN.{replicate}
 use Rattle.wire.proofs.Values.{bytes-read}
 use Rattle.curve.specs.declared.Curve.{Curve}
 use Rattle.curve.specs.Claims.{Stricter}
 use Rattle.curve.proofs.Stricter.{same}
 use Rattle.rules.specs.Numbers.{codeOf}
-use Rattle.rules.specs.Places.{copies, anyOf, freeCurve, freeSection, places}
+use Rattle.rules.specs.Places.{anyOf, freeCurve, freeSection, places}
 use Rattle.rules.specs.Runs.{moments}
 use Rattle.rules.specs.Units.{IsUnit}
 use Rattle.rules.specs.TwoRuns.{TrainsCompared, TracksCompared, Compared, Both, Faster, RefusedAlike, NoServiceFault, NoEmergencyFault, InGear, UnexpectedStopAlike, Presumed, Claimed, ClaimGiven}
@@ -23,21 +24,21 @@ use Rattle.rules.proofs.Keeps.{every-run-is-unit}
 
 -- no free place is held
 none-held : {A : Type 0} (held : A → Bool) (free : A) → held free ≡ false → (n : ℕ) {x : A}
-    → List·Memᴰ x (copies n free) → held x ≡ true → ⊥
+    → List·Memᴰ x (replicate n free) → held x ≡ true → ⊥
 none-held held free e zero m h = List·Memᴰ·not-nil m
 none-held held free e (suc n) (List·Memᴰ·head p) h = false≢true (sym e ∙ ap held (sym p) ∙ h)
 none-held held free e (suc n) (List·Memᴰ·tail m) h = none-held held free e n m h
 
 -- where every later place is free, what is held stands at the first
-held-first : (curve : Curve) (n : ℕ) {x : Curve} → List·Memᴰ x (curve ∷ copies n freeCurve) → x .held ≡ true → x ≡ curve
+held-first : (curve : Curve) (n : ℕ) {x : Curve} → List·Memᴰ x (curve ∷ replicate n freeCurve) → x .held ≡ true → x ≡ curve
 held-first curve n (List·Memᴰ·head p) h = p
 held-first curve n (List·Memᴰ·tail m) h = absurd (none-held (λ x. x .held) freeCurve refl n m h)
 
 -- one curve in each, and sections in the second alone
 pub one-curve : (curve curve′ : Curve) (n m : ℕ) (sections : List Section) (forty : Bool)
     → curve′ .held ≡ curve .held → curve′ .id ≡ curve .id → curve′ .past ≡ curve .past → Stricter curve curve′
-    → TracksCompared (record { curves = curve ∷ copies n freeCurve; sections = copies m freeSection; forty = forty })
-    (record { curves = curve′ ∷ copies n freeCurve; sections = sections; forty = forty })
+    → TracksCompared (record { curves = curve ∷ replicate n freeCurve; sections = replicate m freeSection; forty = forty })
+    (record { curves = curve′ ∷ replicate n freeCurve; sections = sections; forty = forty })
 unfolding anyOf
 one-curve curve curve′ n m sections forty held id past stricter = record {
   ids = λ i e. rw (held, id) e;
@@ -49,9 +50,9 @@ one-curve curve curve′ n m sections forty held id past stricter = record {
 
 -- the same curve in each, or none where it is a free place, and no section
 pub same-curve : (curve : Curve) (forty : Bool)
-    → TracksCompared (record { curves = curve ∷ copies 15 freeCurve; sections = copies places freeSection; forty = forty })
-    (record { curves = curve ∷ copies 15 freeCurve; sections = copies places freeSection; forty = forty })
-same-curve curve forty = one-curve curve curve 15 places (copies places freeSection) forty refl refl refl (same curve)
+    → TracksCompared (record { curves = curve ∷ replicate 15 freeCurve; sections = replicate places freeSection; forty = forty })
+    (record { curves = curve ∷ replicate 15 freeCurve; sections = replicate places freeSection; forty = forty })
+same-curve curve forty = one-curve curve curve 15 places (replicate places freeSection) forty refl refl refl (same curve)
 
 -- a unit and itself
 pub itself : (unit : Stm) → TrainsCompared (unit .train) (unit .train) → TracksCompared (unit .track) (unit .track)

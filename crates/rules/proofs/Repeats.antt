@@ -13,12 +13,12 @@ use Rattle.wire.specs.Form.{formOf}
 use Rattle.wire.specs.Numbers.{number}
 use Rattle.wire.proofs.Equal.{same-equal}
 use Rattle.laws.proofs.Lists.{every, cond-first}
-use Rattle.rules.specs.Numbers.{answerNumber, codeOf}
+use Rattle.rules.specs.Numbers.{answerNumber, codeOf, isAccepted, isRefused}
 use Rattle.rules.specs.Operands.{codeByte, numberOf, operandsOf}
 use Rattle.rules.specs.Commands.{longest, padded}
 use Rattle.rules.specs.Refusals.{isStart, isRepeat, isNext, Rule, firstOf, rulesFor, answerFor, answerOf}
 use Rattle.rules.specs.Calls.{callOf}
-use Rattle.rules.specs.Runs.{Sent, answerTo, isAccepted, isRefused}
+use Rattle.rules.specs.Runs.{Sent, answerTo}
 use Rattle.rules.specs.declared.Answer.{Answer}
 use Rattle.rules.specs.declared.Stm.{Stm}
 use Rattle.rules.proofs.Answers.{passed}

@@ -11,7 +11,7 @@ use Rattle.curve.specs.declared.Judged.{Judged}
 use Rattle.curve.specs.Judging.{movedBy, notedAt}
 use Rattle.curve.specs.Places.{movedAll, notedAll}
 use Rattle.rules.specs.Operands.{speedInRange, curveInRange, sectionInRange}
-use Rattle.rules.specs.Places.{allOf, freeCurve, freeSection, freshTrack, isCurve, isSection, withPast, placedCurve, givenCurve, endedCurve, placedSection, givenSection, endingSection, endedSection, movedSection, movedTrack}
+use Rattle.rules.specs.Places.{allOf, freeCurve, freeSection, freshTrack, isCurve, isSection, withPast, givenCurve, endedCurve, givenSection, endingSection, endedSection, movedSection, movedTrack}
 use Rattle.rules.specs.Units.{isCurveSound, isGroundSound, isSectionSound}
 use Rattle.rules.specs.declared.Section.{Section}
 use Rattle.rules.specs.declared.Track.{Track}
@@ -26,7 +26,7 @@ CurvesSound curves = Sound (λ curve. curve .held) (λ curve. curve .id) isCurve
 -- the past is no figure
 pub curve-given : (curves : List Curve) → CurvesSound curves → (new : Curve) → curveInRange new ≡ true
     → CurvesSound (givenCurve new curves)
-unfolding givenCurve placedCurve curveInRange
+unfolding givenCurve curveInRange
 curve-given curves s new range =
     given-sound s new (λ curve. withPast new (curve .past)) (if-made (new .held) (curveInRange new) (λ _. range)) (λ _. refl)
     (λ curve. if-made (new .held) (curveInRange (withPast new (curve .past))) (λ _. range))
@@ -68,7 +68,7 @@ SectionsSound length sections = Sound (λ section. section .held) (λ section. s
 module _ (length : ℕ) where
   pub section-given : (sections : List Section) → SectionsSound length sections
       → (new : Section) → isSectionSound length new ≡ true → SectionsSound length (givenSection new sections)
-  unfolding givenSection placedSection
+  unfolding givenSection
   section-given sections s new good = given-sound s new (λ _. new) good (λ _. refl) (λ _. good)
 
   -- a section that ends, its ground below the train's length

@@ -5,12 +5,12 @@ use mathlib.Core.Bool.{Bool, true, false, not, _&&_, _||_, or-true, and-false}
 use mathlib.Core.List.{List, [], _∷_}
 use borrow.Author.Tests.{not-true, eq-eqb}
 use Rattle.wire.specs.Numbers.{byteAt}
-use Rattle.rules.specs.Numbers.{codeOf, isState}
+use Rattle.rules.specs.Numbers.{codeOf, isState, isAccepted}
 use Rattle.rules.specs.Operands.{codeByte, operandsOf}
 use Rattle.rules.specs.Table.{stands, orderedBy, isStop, isReleasable, releasableWhen}
 use Rattle.rules.specs.Releases.{isHalt, sinceAt, sinceBy, brakesBy}
 use Rattle.rules.specs.Commands.{stopped}
-use Rattle.rules.specs.Runs.{Sent, answerTo, stateAfter, stateAtEnd, isAccepted, noneAccepted, isOf, freshens}
+use Rattle.rules.specs.Runs.{Sent, answerTo, stateAfter, stateAtEnd, noneAccepted, isOf, freshens}
 use Rattle.rules.specs.Braking.{readingIn, isSupervised, seenAt, releasableNow, freshlyPressed, pressesFor, halts, NoneDroppedWithoutPress, StopNotesAfresh, StopWantsHalt, LandslideWantsHalt}
 use Rattle.rules.specs.declared.Code.{Code}
 use Rattle.rules.specs.declared.State.{State}

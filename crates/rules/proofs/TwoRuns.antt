@@ -4,14 +4,14 @@ use mathlib.Core.Path.{_≡_, refl, sym, _∙_, ap}
 use mathlib.Core.Bool.{Bool, true, false, false≢true, _||_}
 use mathlib.Core.List.{List, [], _∷_}
 use native.Mathlib.Nat.{le-refl}
-use Rattle.rules.specs.Numbers.{codeOf, isCode}
+use Rattle.rules.specs.Numbers.{codeOf, isCode, isAccepted, isRefused}
 use Rattle.rules.specs.Operands.{codeByte, numberOf, operandsOf, readingOf}
 use Rattle.rules.specs.Table.{stands}
 use Rattle.rules.specs.Odometer.{reportedIn}
 use Rattle.rules.specs.Commands.{carriedOut, withLast, remembered, acceptedOf}
 use Rattle.rules.specs.Refusals.{isStart}
 use Rattle.rules.specs.Calls.{areaFor, areaOf}
-use Rattle.rules.specs.Runs.{Sent, answerTo, stateAfter, momentOf, moments, isAccepted, isRefused}
+use Rattle.rules.specs.Runs.{Sent, answerTo, stateAfter, momentOf, moments}
 use Rattle.rules.specs.TwoRuns.{Compared, Both, Faster, RefusedAlike, NoServiceFault, NoEmergencyFault, InGear}
 use Rattle.rules.specs.TwoRuns.{UnexpectedStopAlike, Claimed, TwoRuns}
 use Rattle.rules.specs.declared.Answer.{Answer}

@@ -14,7 +14,7 @@ use Rattle.rules.specs.Table.{noCauses, anyStands}
 use Rattle.rules.specs.Releases.{freshBrakes}
 use Rattle.rules.specs.Odometer.{withTrack, withBrakes}
 use Rattle.rules.specs.Commands.{longest, freshFeedback, freshKept, freshLast, freshWith, freshStm, noTrain}
-use Rattle.rules.specs.Units.{curvesDiffer, sectionsDiffer, Reached, IsUnit, FreshIsUnit}
+use Rattle.rules.specs.Units.{Reached, IsUnit, FreshIsUnit}
 use Rattle.rules.specs.declared.State.{State}
 use Rattle.rules.specs.declared.Train.{Train}
 use Rattle.rules.specs.declared.Track.{Track}
@@ -51,7 +51,6 @@ pub record Parts (stm : Stm) : Type 0 where
   pub at : At (stm .control .state) (stm .brakes) (stm .feedback .phase)
 
 pub unit-parts : (stm : Stm) → IsUnit stm → Parts stm
-unfolding curvesDiffer sectionsDiffer
 unit-parts stm u = record {
   body = record {
     range = u .train;
@@ -68,7 +67,6 @@ unit-parts stm u = record {
 
 pub parts-unit : (stm : Stm) → Parts stm → length (stm .last .bytes) ≡ longest → length (stm .last .report) ≡ reportLength
     → IsUnit stm
-unfolding curvesDiffer sectionsDiffer
 parts-unit stm p bytes report =
     let b = p .body in
     record {

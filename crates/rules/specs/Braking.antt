@@ -5,13 +5,13 @@ use mathlib.Core.Bool.{Bool, true, false, cond, not, _&&_, _||_}
 use mathlib.Core.List.{List}
 use lib.Dec.{eqb}
 use Rattle.wire.specs.Numbers.{byteAt}
-use Rattle.rules.specs.Numbers.{codeOf, bitNumber, isState}
+use Rattle.rules.specs.Numbers.{codeOf, bitNumber, isState, isAccepted}
 use Rattle.rules.specs.Operands.{codeByte, operandsOf, readingOf}
 use Rattle.rules.specs.Table.{stands, orderedAt, orderedBy, isReleasable, addedCauses}
 use Rattle.rules.specs.Checks.{isDrop}
 use Rattle.rules.specs.Releases.{serviceFails}
 use Rattle.rules.specs.Odometer.{seenIn, moves, measures, notes}
-use Rattle.rules.specs.Runs.{Sent, answerTo, stateAfter, stateAtEnd, isAccepted, noneAccepted, isOf, freshens}
+use Rattle.rules.specs.Runs.{Sent, answerTo, stateAfter, stateAtEnd, noneAccepted, isOf, freshens}
 use Rattle.rules.specs.declared.Code.{Code}
 use Rattle.rules.specs.declared.State.{State}
 use Rattle.rules.specs.declared.Cause.{Cause}

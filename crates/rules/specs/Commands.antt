@@ -3,7 +3,7 @@ use Prim.Native.Nat.{ℕ, zero, suc}
 use mathlib.Core.Bool.{Bool, true, false, cond}
 use mathlib.Core.List.{List, [], _∷_}
 use lib.Dec.{eqb}
-use lib.ListN.{drop}
+use lib.ListN.{drop, replicate}
 use Rattle.wire.specs.Numbers.{byteAt}
 use Rattle.wire.specs.Form.{reportLength}
 use Rattle.pressure.specs.declared.Feed.{Feed}
@@ -12,7 +12,7 @@ use Rattle.pressure.specs.declared.Measured.{Measured}
 use Rattle.pressure.specs.Convert.{kPa}
 use Rattle.rules.specs.Numbers.{codeOf, stateOf}
 use Rattle.rules.specs.Operands.{codeByte, operandsOf, trainOf, readingOf, curveOf, sectionOf}
-use Rattle.rules.specs.Places.{copies, freshTrack, withCurves, withSections, withForty, givenCurve, endedCurve, givenSection, endedSection}
+use Rattle.rules.specs.Places.{freshTrack, withCurves, withSections, withForty, givenCurve, endedCurve, givenSection, endedSection}
 use Rattle.rules.specs.Releases.{freshBrakes, brakesBy}
 use Rattle.rules.specs.Odometer.{withState, withTrack, withBrakes, reportedIn}
 use Rattle.rules.specs.Reports.{reportOf}
@@ -42,7 +42,7 @@ abbrev pub longest : ℕ
 longest = 24
 
 unfoldable pub freshLast : Last
-freshLast = record { bytes = copies longest 0; report = copies reportLength 0 }
+freshLast = record { bytes = replicate longest 0; report = replicate reportLength 0 }
 
 unfoldable pub noTrain : Train
 noTrain = record {

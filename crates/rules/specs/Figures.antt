@@ -4,16 +4,15 @@ use Prim.Native.Nat.{ℕ, zero, suc}
 use mathlib.Core.Bool.{Bool, true, cond, _&&_}
 use mathlib.Core.List.{List, [], _∷_, _++_, map, foldr}
 use lib.Dec.{eqb}
-use lib.ListN.{drop}
+use lib.ListN.{drop, replicate}
 use Rattle.wire.specs.Form.{reportLength}
 use Rattle.wire.specs.Numbers.{byteAt, number}
 use Rattle.pressure.specs.Figures.{pressureFigures}
 use Rattle.curve.specs.Figures.{curveFigures}
-use Rattle.rules.specs.Numbers.{answerNumber, codeNumber, stateNumber}
-use Rattle.rules.specs.Places.{copies}
+use Rattle.rules.specs.Numbers.{answerNumber, codeNumber, stateNumber, isRefused}
 use Rattle.rules.specs.Reports.{two}
 use Rattle.rules.specs.Commands.{freshStm}
-use Rattle.rules.specs.Runs.{Sent, Moment, momentOf, moments, stateAtEnd, isRefused}
+use Rattle.rules.specs.Runs.{Sent, Moment, momentOf, moments, stateAtEnd}
 use Rattle.rules.specs.TwoRuns.{orderIn}
 use Rattle.rules.specs.declared.Code.{Code}
 use Rattle.rules.specs.declared.State.{State}
@@ -23,7 +22,7 @@ use Rattle.rules.specs.declared.Stm.{Stm}
 
 -- a command, with an area in which no report stands yet
 abbrev pub send : List ℕ → Sent
-send command = record { command = command; area = copies reportLength 255 }
+send command = record { command = command; area = replicate reportLength 255 }
 
 -- "One code byte, a four-byte number, operands", the number below 65,536
 abbrev pub numbered : Code → ℕ → List ℕ → Sent

@@ -1,6 +1,6 @@
 -- 01's numbers: codes, answers, states, orders, bars, modes and the bits of the causes, each by cases.
 use Prim.Native.Nat.{ℕ}
-use mathlib.Core.Bool.{Bool, cond}
+use mathlib.Core.Bool.{Bool, cond, not, _||_}
 use lib.Dec.{eqb}
 use Rattle.rules.specs.declared.Answer.{Answer}
 use Rattle.rules.specs.declared.Code.{Code}
@@ -27,6 +27,16 @@ answerNumber Answer.NotAllowed = 10
 answerNumber Answer.NoReference = 11
 answerNumber Answer.NotHeld = 12
 answerNumber Answer.AllHeld = 13
+
+-- accepted; accepted or again; refused
+abbrev pub isAccepted : Answer → Bool
+isAccepted answer = eqb (answerNumber answer) 0
+
+abbrev pub isAnswered : Answer → Bool
+isAnswered answer = isAccepted answer || eqb (answerNumber answer) 100
+
+abbrev pub isRefused : Answer → Bool
+isRefused answer = not (isAnswered answer)
 
 -- "Commands", the column Code
 abbrev pub codeNumber : Code → ℕ

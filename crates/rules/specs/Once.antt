@@ -5,9 +5,10 @@ use mathlib.Core.Bool.{Bool, true, false, cond, not, _||_}
 use mathlib.Core.List.{List, [], _∷_, _++_}
 use lib.ListN.{length}
 use Rattle.wire.specs.Form.{reportLength}
+use Rattle.rules.specs.Numbers.{isAccepted, isRefused}
 use Rattle.rules.specs.Operands.{numberOf}
 use Rattle.rules.specs.Refusals.{isStart}
-use Rattle.rules.specs.Runs.{Sent, Moment, answerTo, stateAfter, momentOf, moments, stateAtEnd, isAccepted, isRefused, noneAccepted}
+use Rattle.rules.specs.Runs.{Sent, Moment, answerTo, stateAfter, momentOf, moments, stateAtEnd, noneAccepted}
 use Rattle.rules.specs.declared.Answer.{Answer}
 use Rattle.rules.specs.declared.Stm.{Stm}
 

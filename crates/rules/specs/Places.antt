@@ -1,19 +1,15 @@
 -- The places of curves and sections (01, "Answers", refusals 12 and 13 and what follows them; "Curves").
-use Prim.Native.Nat.{ℕ, zero, suc, _+_, _*_}
+use Prim.Native.Nat.{ℕ, _+_, _*_}
 use mathlib.Core.Bool.{Bool, true, false, cond, not, _&&_, _||_}
 use mathlib.Core.List.{List, [], _∷_, map}
 use lib.Dec.{eqb, leb}
+use lib.ListN.{replicate}
 use Rattle.curve.specs.declared.Kind.{Kind}
 use Rattle.curve.specs.declared.Direction.{Direction}
 use Rattle.curve.specs.declared.Curve.{Curve}
 use Rattle.curve.specs.Places.{movedAll}
 use Rattle.rules.specs.declared.Section.{Section}
 use Rattle.rules.specs.declared.Track.{Track}
-
--- so many of the same
-abbrev pub copies : {A : Type 0} → ℕ → A → List A
-copies zero x = []
-copies (suc n) x = x ∷ copies n x
 
 -- a test passes at one of a list, or at all of it
 unfoldable pub anyOf : {A : Type 0} → (A → Bool) → List A → Bool
@@ -23,6 +19,11 @@ anyOf test (x ∷ xs) = test x || anyOf test xs
 unfoldable pub allOf : {A : Type 0} → (A → Bool) → List A → Bool
 allOf test [] = true
 allOf test (x ∷ xs) = test x && allOf test xs
+
+-- "A freed place is used again": the first that holds none
+abbrev pub placed : {A : Type 0} → (A → Bool) → A → List A → List A
+placed held new [] = []
+placed held new (x ∷ xs) = cond (held x) (x ∷ placed held new xs) (new ∷ xs)
 
 -- places that hold nothing
 abbrev pub freeCurve : Curve
@@ -45,7 +46,7 @@ places = 16
 
 -- no curve, no section, no 40
 unfoldable pub freshTrack : Track
-freshTrack = record { curves = copies places freeCurve; sections = copies places freeSection; forty = false }
+freshTrack = record { curves = replicate places freeCurve; sections = replicate places freeSection; forty = false }
 
 -- ---- curves
 
@@ -75,14 +76,9 @@ withPast curve past = record {
 abbrev pub replacedCurve : Curve → Curve → Curve
 replacedCurve new curve = cond (isCurve (new .id) curve) (withPast new (curve .past)) curve
 
--- "A freed place is used again": the first that holds none
-unfoldable pub placedCurve : Curve → List Curve → List Curve
-placedCurve new [] = []
-placedCurve new (curve ∷ curves) = cond (curve .held) (curve ∷ placedCurve new curves) (new ∷ curves)
-
 -- a new curve among the others
 unfoldable pub givenCurve : Curve → List Curve → List Curve
-givenCurve new curves = cond (holdsCurve (new .id) curves) (map (replacedCurve new) curves) (placedCurve new curves)
+givenCurve new curves = cond (holdsCurve (new .id) curves) (map (replacedCurve new) curves) (placed (λ curve. curve .held) new curves)
 
 -- "only an ending, CS or a start removes a curve"
 unfoldable pub endedCurve : ℕ → List Curve → List Curve
@@ -108,13 +104,9 @@ allSectionsHeld sections = allOf (λ section. section .held) sections
 abbrev pub replacedSection : Section → Section → Section
 replacedSection new section = cond (isSection (new .id) section) new section
 
-unfoldable pub placedSection : Section → List Section → List Section
-placedSection new [] = []
-placedSection new (section ∷ sections) = cond (section .held) (section ∷ placedSection new sections) (new ∷ sections)
-
 unfoldable pub givenSection : Section → List Section → List Section
 givenSection new sections =
-    cond (holdsSection (new .id) sections) (map (replacedSection new) sections) (placedSection new sections)
+    cond (holdsSection (new .id) sections) (map (replacedSection new) sections) (placed (λ section. section .held) new sections)
 
 -- a section whose end is told, with the ground moved since
 abbrev pub endingSection : Section → ℕ → Section

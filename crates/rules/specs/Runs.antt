@@ -2,10 +2,9 @@
 use Prim.Native.Nat.{ℕ}
 use mathlib.Core.Bool.{Bool, true, not, _&&_, _||_}
 use mathlib.Core.List.{List, [], _∷_}
-use lib.Dec.{eqb}
 use lib.ListN.{length}
 use Rattle.wire.specs.Numbers.{byteAt}
-use Rattle.rules.specs.Numbers.{answerNumber, codeOf, stateOf, isCode, isState}
+use Rattle.rules.specs.Numbers.{isAccepted, codeOf, stateOf, isCode, isState}
 use Rattle.rules.specs.Operands.{codeByte, operandsOf}
 use Rattle.rules.specs.Calls.{callOf, areaOf}
 use Rattle.rules.specs.declared.Answer.{Answer}
@@ -46,16 +45,6 @@ moments stm (x ∷ xs) = momentOf stm x ∷ moments (stateAfter stm x) xs
 unfoldable pub stateAtEnd : Stm → List Sent → Stm
 stateAtEnd stm [] = stm
 stateAtEnd stm (x ∷ xs) = stateAtEnd (stateAfter stm x) xs
-
--- 0; 0 or 100; neither
-abbrev pub isAccepted : Answer → Bool
-isAccepted answer = eqb (answerNumber answer) 0
-
-abbrev pub isAnswered : Answer → Bool
-isAnswered answer = isAccepted answer || eqb (answerNumber answer) 100
-
-abbrev pub isRefused : Answer → Bool
-isRefused answer = not (isAnswered answer)
 
 -- no command of a run that passes a test, at the state that it finds, is accepted
 unfoldable pub noneAccepted : (Stm → List ℕ → Bool) → Stm → List Sent → Bool

@@ -9,11 +9,12 @@ use Rattle.curve.specs.declared.Curve.{Curve}
 use Rattle.curve.specs.declared.Interval.{Interval}
 use Rattle.curve.specs.Intervals.{intervalOf, rankOf}
 use Rattle.curve.specs.Claims.{Stricter}
+use Rattle.rules.specs.Numbers.{isRefused}
 use Rattle.rules.specs.Operands.{codeByte, numberOf, operandsOf, twoAt, bitOf}
 use Rattle.rules.specs.Places.{holdsCurve}
 use Rattle.rules.specs.Speeds.{brakingOf}
 use Rattle.rules.specs.Table.{stands}
-use Rattle.rules.specs.Runs.{Sent, Moment, moments, isRefused, isOf}
+use Rattle.rules.specs.Runs.{Sent, Moment, moments, isOf}
 use Rattle.rules.specs.Units.{IsUnit}
 use Rattle.rules.specs.declared.Code.{Code}
 use Rattle.rules.specs.declared.Cause.{Cause}

@@ -16,7 +16,7 @@ use Rattle.pressure.specs.Claims.{Each}
 use Rattle.curve.specs.declared.Curve.{Curve}
 use Rattle.rules.specs.Numbers.{isState}
 use Rattle.rules.specs.Operands.{trainInRange, curveInRange, sectionInRange}
-use Rattle.rules.specs.Places.{places, allOf, isCurve, isSection}
+use Rattle.rules.specs.Places.{places, allOf}
 use Rattle.rules.specs.Table.{anyStands, standsWith}
 use Rattle.rules.specs.Commands.{longest, freshFeedback, freshStm}
 use Rattle.rules.specs.Runs.{Sent, stateAfter, stateAtEnd}
@@ -44,16 +44,10 @@ isSectionSound length section = not (section .held) || sectionInRange section &&
 
 -- ---- no id twice
 
--- no later place holds what this one holds
-unfoldable pub curvesDiffer : List Curve → Bool
-curvesDiffer [] = true
-curvesDiffer (curve ∷ curves) =
-    (not (curve .held) || allOf (λ other. not (isCurve (curve .id) other)) curves) && curvesDiffer curves
-
-unfoldable pub sectionsDiffer : List Section → Bool
-sectionsDiffer [] = true
-sectionsDiffer (section ∷ sections) =
-    (not (section .held) || allOf (λ other. not (isSection (section .id) other)) sections) && sectionsDiffer sections
+-- no later place holds the id that this one holds
+abbrev pub differ : {A : Type 0} → (A → Bool) → (A → ℕ) → List A → Bool
+differ held id [] = true
+differ held id (x ∷ xs) = (not (held x) || allOf (λ other. not (held other && eqb (id other) (id x))) xs) && differ held id xs
 
 -- ---- counts
 
@@ -105,8 +99,8 @@ pub record IsUnit (stm : Stm) : Type 0 where
   pub drift : stm .brakes .drift ≡ true → anyStands (stm .brakes .causes) ≡ true
   pub failed : stm .brakes .failed ≡ true → isState State.FA (stm .control .state) ≡ true
   -- "no curve id and no section id held twice"
-  pub curveIds : curvesDiffer (stm .track .curves) ≡ true
-  pub sectionIds : sectionsDiffer (stm .track .sections) ≡ true
+  pub curveIds : differ (λ curve. curve .held) (λ curve. curve .id) (stm .track .curves) ≡ true
+  pub sectionIds : differ (λ section. section .held) (λ section. section .id) (stm .track .sections) ≡ true
   -- "in DA, a reference pressure"
   pub reference : isState State.DA (stm .control .state) ≡ true → isSet (stm .feedback .phase) ≡ true
   -- the last command and its report
