@@ -1,0 +1,68 @@
+use Rattle.unit.proofs.sections.end_section.Statement.{statement}
+use Rattle.unit.proofs.sections.end_section.Tie as tie
+use Rattle.unit.proofs.sections.end_section.Reads as reads
+use Rattle.unit.proofs.sections.end_section.Lts as lts
+use Rattle.unit.proofs.sections.told_section.Reads as told-section-reads
+
+abbrev Inv-loop : tie.InvT-loop
+Inv-loop id sections next₀ i₀ next i = ?
+
+abbrev μ-loop : tie.MeasureT-loop
+μ-loop id sections next₀ i₀ next i = ?
+
+-- src/sections.rt:146:5
+loop-holds : tie.Need-loop-holds Inv-loop μ-loop
+loop-holds c = ?
+
+-- src/sections.rt:147:23
+mul-section : tie.Need-mul-section Inv-loop μ-loop
+mul-section c = ?
+
+-- src/sections.rt:147:23
+array-copy-out-section : tie.Need-array-copy-out-section Inv-loop μ-loop
+array-copy-out-section c = ?
+
+-- src/sections.rt:148:19
+told-section-requires : tie.Need-told-section-requires Inv-loop μ-loop
+told-section-requires c κs = ?
+
+-- src/sections.rt:148:9
+mul-next : tie.Need-mul-next Inv-loop μ-loop
+mul-next c = ?
+
+-- src/sections.rt:148:9
+array-set-from-next : tie.Need-array-set-from-next Inv-loop μ-loop
+array-set-from-next c = ?
+
+-- src/sections.rt:146:9
+add-i : tie.Need-add-i Inv-loop μ-loop
+add-i c = ?
+
+-- src/sections.rt:146:5
+loop-less : tie.Need-loop-less Inv-loop μ-loop
+loop-less c = ?
+
+-- src/sections.rt:146:5
+loop-again : tie.Need-loop-again Inv-loop μ-loop
+loop-again c = ?
+
+-- src/sections.rt:142:1
+returns : tie.Need-returns Inv-loop μ-loop
+returns c = ?
+
+pub end-section-spec : {M : Type 1} → statement M
+end-section-spec =
+    tie.close
+    (tie.spec
+    Inv-loop
+    μ-loop
+    loop-holds
+    mul-section
+    array-copy-out-section
+    told-section-requires
+    mul-next
+    array-set-from-next
+    add-i
+    loop-less
+    loop-again
+    returns)

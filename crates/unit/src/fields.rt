@@ -1,0 +1,221 @@
+// The operands of the commands and their ranges. Each is read at its place after the code and the number.
+ghost use mathlib.Core.Path.{_≡_};
+ghost use Rattle.rules.specs.Operands.{bitOf, within, feedOf, trainOf, trainInRange, startInRange, readingOf, odometerInRange, kindOf, speedInRange, gradientOf, curveOf, curveInRange, newCurveInRange, sectionOf, sectionInRange, inRange};
+use curve::Curve;
+use curve::Direction;
+use curve::Gradient;
+use curve::Kind;
+use curve::Times;
+use pressure::Feed;
+use rules::Code;
+use rules::Reading;
+use rules::Section;
+use rules::Train;
+use wire::be16;
+use wire::byte_at;
+
+// Whether bit n of a byte is set.
+fn bit_of(n: u8, byte: u8) -> bool
+    ensures { λ r. ⌜ r ≡ bitOf n byte ⌝ }
+{
+    if n < 8 { (byte >> n) % 2 == 1 } else { false }
+}
+
+fn within(least: u16, most: u16, x: u16) -> bool
+    ensures { λ r. ⌜ r ≡ within least most x ⌝ }
+{
+    (least <= x) & (x <= most)
+}
+
+// ---- 01 start
+
+fn feed_of(cylinder: bool) -> Feed
+    ensures { λ r. ⌜ r ≡ feedOf cylinder ⌝ }
+{
+    if cylinder { Feed::Cylinder } else { Feed::Pipe }
+}
+
+pub fn train_of(s: &[u8]) -> Train
+    ensures { λ r. ⌜ r ≡ trainOf (now (s .entry)) ⌝ }
+{
+    let flags = byte_at(s, 0);
+    let times = Times {
+        brake: byte_at(s, 9),
+        c: byte_at(s, 10),
+        permitted: byte_at(s, 11),
+        bf: byte_at(s, 12),
+    };
+    Train {
+        softly: bit_of(0, flags),
+        feed: feed_of(bit_of(1, flags)),
+        speed: be16(s, 1),
+        length: be16(s, 3),
+        full: be16(s, 5),
+        soft: be16(s, 7),
+        times,
+        margin: byte_at(s, 13),
+        emergency: byte_at(s, 14),
+        sufficient: byte_at(s, 15),
+        pressure: be16(s, 16),
+        check: byte_at(s, 18),
+    }
+}
+
+fn train_in_range(train: Train) -> bool
+    ensures { λ r. ⌜ r ≡ trainInRange train ⌝ }
+{
+    let times = train.times;
+    within(10, 300, train.speed)
+        & within(10, 1000, train.length)
+        & within(400, 2000, train.full)
+        & within(400, train.full, train.soft)
+        & within(1, 100, times.brake as u16)
+        & (times.c <= 200)
+        & (times.permitted <= 200)
+        & (times.bf <= 200)
+        & within(1, 30, train.margin as u16)
+        & within(11, 30, train.emergency as u16)
+        & within(30, 150, train.sufficient as u16)
+        & within(150, 600, train.pressure)
+        & within(1, 100, train.check as u16)
+}
+
+fn start_in_range(s: &[u8]) -> bool
+    ensures { λ r. ⌜ r ≡ startInRange (now (s .entry)) ⌝ }
+{
+    (byte_at(s, 0) <= 3) & train_in_range(train_of(s))
+}
+
+// ---- 10 odometer
+
+pub fn reading_of(s: &[u8]) -> Reading
+    ensures { λ r. ⌜ r ≡ readingOf (now (s .entry)) ⌝ }
+{
+    let buttons = byte_at(s, 8);
+    Reading {
+        speed: be16(s, 0),
+        moved: be16(s, 2),
+        measured: wire::signed16(be16(s, 4)),
+        external: wire::signed16(be16(s, 6)),
+        loss: bit_of(0, buttons),
+        text: bit_of(1, buttons),
+        halka: bit_of(2, buttons),
+        neutral: bit_of(3, buttons),
+    }
+}
+
+fn odometer_in_range(s: &[u8]) -> bool
+    ensures { λ r. ⌜ r ≡ odometerInRange (now (s .entry)) ⌝ }
+{
+    (be16(s, 0) <= 10000) & (be16(s, 2) <= 1200) & (byte_at(s, 8) <= 15)
+}
+
+// ---- 20 curve
+
+fn kind_of(byte: u8) -> Kind
+    ensures { λ r. ⌜ r ≡ kindOf byte ⌝ }
+{
+    if byte == 0 {
+        Kind::SpeedTarget
+    } else {
+        Kind::ExpectStop
+    }
+}
+
+fn speed_in_range(kind: Kind, speed: u16) -> bool
+    ensures { λ r. ⌜ r ≡ speedInRange kind speed ⌝ }
+{
+    match kind {
+        Kind::SpeedTarget => within(10, 300, speed),
+        Kind::ExpectStop => (speed == 10) | (speed == 40),
+    }
+}
+
+// A signed byte as a direction and a size.
+fn gradient_of(byte: u8) -> Gradient
+    ensures { λ r. ⌜ r ≡ gradientOf byte ⌝ }
+{
+    if byte < 128 {
+        Gradient {
+            direction: Direction::Up,
+            size: byte,
+        }
+    } else {
+        Gradient {
+            direction: Direction::Down,
+            size: 255 - byte + 1,
+        }
+    }
+}
+
+// The curve, its distance in cm.
+pub fn curve_of(s: &[u8]) -> Curve
+    ensures { λ r. ⌜ r ≡ curveOf (now (s .entry)) ⌝ }
+{
+    Curve {
+        held: true,
+        id: byte_at(s, 0),
+        kind: kind_of(byte_at(s, 1)),
+        distance: 100 * be16(s, 2) as u32,
+        speed: be16(s, 4),
+        gradient: gradient_of(byte_at(s, 6)),
+        past: false,
+    }
+}
+
+fn curve_in_range(curve: Curve) -> bool
+    ensures { λ r. ⌜ r ≡ curveInRange curve ⌝ }
+{
+    let kind = curve.kind;
+    let gradient = curve.gradient;
+    (curve.id <= 254)
+        & (curve.distance <= 1000000)
+        & speed_in_range(kind, curve.speed)
+        & (gradient.size <= 30)
+}
+
+fn new_curve_in_range(s: &[u8]) -> bool
+    ensures { λ r. ⌜ r ≡ newCurveInRange (now (s .entry)) ⌝ }
+{
+    (byte_at(s, 1) <= 1) & curve_in_range(curve_of(s))
+}
+
+// ---- 22 section
+
+pub fn section_of(s: &[u8]) -> Section
+    ensures { λ r. ⌜ r ≡ sectionOf (now (s .entry)) ⌝ }
+{
+    Section {
+        held: true,
+        id: byte_at(s, 0),
+        speed: be16(s, 1),
+        ending: false,
+        ground: 0,
+    }
+}
+
+fn section_in_range(section: Section) -> bool
+    ensures { λ r. ⌜ r ≡ sectionInRange section ⌝ }
+{
+    (section.id <= 254) & within(10, 300, section.speed)
+}
+
+// ---- all commands
+
+// Whether every operand is in its range.
+pub fn in_range(code: Code, s: &[u8]) -> bool
+    ensures { λ r. ⌜ r ≡ inRange code (now (s .entry)) ⌝ }
+{
+    match code {
+        Code::Start => start_in_range(s),
+        Code::ChangeState => byte_at(s, 0) <= 4,
+        Code::Odometer => odometer_in_range(s),
+        Code::NewCurve => new_curve_in_range(s),
+        Code::EndCurve => byte_at(s, 0) <= 254,
+        Code::NewSection => section_in_range(section_of(s)),
+        Code::EndSection => byte_at(s, 0) <= 254,
+        Code::StopPassed => byte_at(s, 0) <= 2,
+        Code::Proceed => true,
+        Code::BaliseError => true,
+    }
+}

@@ -1,0 +1,69 @@
+// The unit of 01: a state, and one call for every command. The state goes in and comes out by value, the command
+// bytes and the report area are lent.
+//
+// No public function has a `requires`: each is defined at every state, at every bytes and at every area.
+mod causes;
+mod check;
+mod commands;
+mod curves;
+mod fields;
+mod numbers;
+mod odometer;
+mod refuse;
+mod release;
+mod report;
+mod sections;
+mod seeing;
+mod shows;
+mod state;
+mod track;
+
+pub use numbers::answer_number;
+pub use numbers::is_answered;
+pub use state::fresh;
+ghost use mathlib.Core.Path.{_≡_};
+ghost use mathlib.Core.Bool.{true, false};
+ghost use lib.ListN.{length};
+ghost use Rattle.wire.specs.Form.{operandsOf};
+ghost use Rattle.rules.specs.Numbers.{isAccepted, isRefused};
+ghost use Rattle.rules.specs.Calls.{callOf, areaOf};
+use rules::Outcome;
+use rules::Stm;
+
+// The operand part of a command, a part of the caller's own bytes; empty at refusals 1 to 4.
+pub fn operands(command: &[u8], area: usize) -> &[u8]
+    ensures { λ r. ⌜ now r ≡ operandsOf (now (command .entry)) area ⌝ }
+{
+    wire::operands(command, area)
+}
+
+// The answer and the next state.
+fn outcome_of(stm: Stm, command: &[u8], area: usize) -> Outcome
+    ensures { λ r. ⌜ r ≡ callOf stm (now (command .entry)) area ⌝ }
+{
+    let answer = refuse::answer_of(stm, command, area);
+    if numbers::is_accepted(answer) {
+        let next = commands::accept(command, operands(command, area), stm);
+        return Outcome { answer, stm: next };
+    }
+    Outcome { answer, stm }
+}
+
+// One command. The report area is written whole at answers 0 and 100 and left alone at every other; the state moves
+// at answer 0 only.
+pub fn call(stm: Stm, command: &[u8], report: &mut [u8]) -> Outcome
+    ensures { λ r. ⌜ r ≡ callOf stm (now (command .entry)) (length (now (report .entry))) ⌝ }
+    ensures { λ r. ⌜ now (report .exit) ≡ areaOf r (now (report .entry)) ⌝ }
+    ensures { λ r. ⌜ (isAccepted (r .answer) ≡ false → r .stm ≡ stm) ⌝ }
+    ensures { λ r. ⌜ (isRefused (r .answer) ≡ true → now (report .exit) ≡ now (report .entry)) ⌝ }
+{
+    let outcome = outcome_of(stm, command, report.len());
+    let answer = outcome.answer;
+    if is_answered(answer) {
+        let next = outcome.stm;
+        let last = next.last;
+        let bytes = last.report;
+        wire::copy_whole(&bytes, report);
+    }
+    outcome
+}

@@ -1,0 +1,159 @@
+// An odometer report: in DA it moves, measures, adds causes, then releases; in HS it moves and measures; in DE
+// and CS it only measures.
+ghost use mathlib.Core.Path.{_≡_};
+ghost use mathlib.Core.Bool.{cond};
+ghost use Rattle.pressure.specs.Report.{reported};
+ghost use Rattle.rules.specs.declared.State.{State};
+ghost use Rattle.rules.specs.Releases.{releasedBrakes};
+ghost use Rattle.rules.specs.Odometer.{moves, keptOf, measures, isFresh, supervised, reportedIn};
+ghost use Rattle.rules.specs.Reports.{reportOf};
+use crate::check::is_drop;
+use crate::release::added_brakes;
+use crate::release::noted_brakes;
+use crate::release::released_brakes;
+use crate::report::Reported;
+use crate::report::report_with;
+use crate::report::told;
+use crate::seeing::rolled_in;
+use crate::seeing::seen_with;
+use crate::state::with_measured;
+use crate::state::with_track;
+use crate::track::judge_now;
+use crate::track::moved_track;
+use crate::track::vmax_of;
+use crate::track::with_curves;
+use pressure::Measured;
+use rules::Brakes;
+use rules::Control;
+use rules::Kept;
+use rules::Reading;
+use rules::Seen;
+use rules::State;
+use rules::Stm;
+use rules::Train;
+
+// ---- moves and measures
+
+fn moved(r: Reading, stm: Stm) -> Stm
+    ensures { λ x. ⌜ x ≡ moves r stm ⌝ }
+{
+    let train = stm.train;
+    let track = stm.track;
+    with_track(stm, moved_track(train.length, r.moved, track))
+}
+
+fn kept_of(r: Reading) -> Kept
+    ensures { λ x. ⌜ x ≡ keptOf r ⌝ }
+{
+    Kept {
+        speed: r.speed,
+        loss: r.loss,
+        text: r.text,
+        halka: r.halka,
+    }
+}
+
+fn pressed(train: Train, before: Measured, r: Reading) -> Measured
+    ensures { λ x. ⌜ x ≡ reported (before .phase) (train .feed) (train .pressure) (r .external) ⌝ }
+{
+    let phase = before.phase;
+    let feed = train.feed;
+    pressure::report(phase, feed, train.pressure, r.external)
+}
+
+fn measured(r: Reading, stm: Stm) -> Stm
+    ensures { λ x. ⌜ x ≡ measures r stm ⌝ }
+{
+    let train = stm.train;
+    let feedback = stm.feedback;
+    with_measured(stm, pressed(train, feedback, r), kept_of(r))
+}
+
+// ---- in DA
+
+fn is_fresh(before: bool, pressed: bool) -> bool
+    ensures { λ x. ⌜ x ≡ isFresh before pressed ⌝ }
+{
+    pressed & !before
+}
+
+// Releases, unless the check of an emergency order has failed.
+fn released(s: Seen, loss: bool, text: bool, b: Brakes) -> Brakes
+    ensures { λ x. ⌜ x ≡ cond (b .failed) b (releasedBrakes s loss text b) ⌝ }
+{
+    if b.failed {
+        return b;
+    }
+    released_brakes(s, loss, text, b)
+}
+
+// That failure leads to FA.
+fn state_after(failed: bool, state: State) -> State
+    ensures { λ x. ⌜ x ≡ cond failed State.FA state ⌝ }
+{
+    if failed { State::FA } else { state }
+}
+
+// What the curves say is judged once, and serves causes, release and report.
+fn supervise(r: Reading, stm: Stm) -> Reported
+    ensures { λ x. ⌜ (x .stm ≡ supervised r stm) × (x .report ≡ reportOf (supervised r stm)) ⌝ }
+{
+    let control = stm.control;
+    let state = control.state;
+    let train = stm.train;
+    let track = stm.track;
+    let brakes = stm.brakes;
+    let feedback = stm.feedback;
+    let before = stm.kept;
+    let last = stm.last;
+    let moved = moved_track(train.length, r.moved, track);
+    let measured = pressed(train, feedback, r);
+    let kept = kept_of(r);
+    let curves = moved.curves;
+    let judged = judge_now(train, kept, curves);
+    let vmax = vmax_of(train, moved);
+    let noted = noted_brakes(train, r, brakes);
+    let since = noted.since;
+    let rolled = noted.roll;
+    let seen = seen_with(judged, vmax, train, measured, kept, since, rolled);
+    let added = added_brakes(train, is_drop(measured), seen, noted);
+    let left = released(
+        seen,
+        is_fresh(before.loss, r.loss),
+        is_fresh(before.text, r.text),
+        added,
+    );
+    let roll = left.roll;
+    let next = Stm {
+        control: Control {
+            started: control.started,
+            state: state_after(added.failed, state),
+        },
+        train,
+        track: with_curves(moved, curve::note_all(curves, judged)),
+        brakes: left,
+        feedback: measured,
+        kept,
+        last,
+    };
+    Reported {
+        stm: next,
+        report: report_with(judged, vmax, rolled_in(seen, roll), next),
+    }
+}
+
+// ---- by the state
+
+pub fn take_reading(r: Reading, stm: Stm) -> Reported
+    ensures { λ x. ⌜ (x .stm ≡ reportedIn (stm .control .state) r stm) × (x .report ≡ reportOf (reportedIn (stm .control .state) r stm)) ⌝ }
+{
+    let control = stm.control;
+    let state = control.state;
+    match state {
+        State::DE => told(measured(r, stm)),
+        State::CS => told(measured(r, stm)),
+        State::HS => told(measured(r, moved(r, stm))),
+        State::DA => supervise(r, stm),
+        State::FA => told(stm),
+    }
+}

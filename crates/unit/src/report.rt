@@ -1,0 +1,253 @@
+// The report.
+ghost use mathlib.Core.Path.{_≡_};
+ghost use mathlib.Core.Bool.{cond};
+ghost use mathlib.Core.List.{_∷_, []};
+ghost use Rattle.rules.specs.declared.State.{State};
+ghost use Rattle.rules.specs.Numbers.{stateNumber, isState};
+ghost use Rattle.rules.specs.Shows.{chosen};
+ghost use Rattle.rules.specs.Speeds.{judgedNow, vmaxOf};
+ghost use Rattle.rules.specs.Odometer.{seenIn};
+ghost use Rattle.rules.specs.Reports.{causesNumber, messagesOf, offeredOf, isOver, shownFields, fields, reportWith, reportInDA, reportOf};
+use crate::causes::order_of;
+use crate::causes::would_drop;
+use crate::numbers::bar_number;
+use crate::numbers::is_state;
+use crate::numbers::mode_number;
+use crate::numbers::order_number;
+use crate::numbers::state_number;
+use crate::seeing::is_insufficient;
+use crate::seeing::seen_with;
+use crate::shows::bar_of;
+use crate::shows::chosen;
+use crate::shows::mode_of;
+use crate::shows::shown_as;
+use crate::track::braking_of;
+use crate::track::judge_now;
+use crate::track::permitted_speed;
+use crate::track::vmax_of;
+use curve::Judged;
+use curve::PLACES;
+use pressure::Measured;
+use rules::Brakes;
+use rules::Candidate;
+use rules::Causes;
+use rules::Kept;
+use rules::Seen;
+use rules::State;
+use rules::Stm;
+use rules::Train;
+use wire::REPORT_LENGTH;
+use wire::high;
+use wire::low;
+
+// A state and its report.
+pub struct Reported {
+    pub stm: Stm,
+    pub report: [u8; REPORT_LENGTH],
+}
+
+// The four bytes of the shown curve.
+struct Shown {
+    id: u8,
+    interval: u8,
+    bar: u8,
+    mode: u8,
+}
+
+// The value of a bit, where it is set.
+fn value(set: bool, bit: u16) -> u16
+    ensures { λ r. ⌜ r ≡ cond set bit 0 ⌝ }
+{
+    if set { bit } else { 0 }
+}
+
+fn causes_number(c: Causes) -> u16
+    ensures { λ r. ⌜ r ≡ causesNumber c ⌝ }
+{
+    value(c.overspeed, 1)
+        + value(c.excess, 2)
+        + value(c.full, 4)
+        + value(c.soft, 8)
+        + value(c.emergency, 16)
+        + value(c.aimed, 32)
+        + value(c.unexpected, 64)
+        + value(c.speed, 128)
+        + value(c.landslide, 256)
+        + value(c.balise, 512)
+        + value(c.rolling, 1024)
+        + value(c.service, 2048)
+}
+
+fn messages_of(b: Brakes, feedback: Measured) -> u8
+    ensures { λ r. ⌜ r ≡ messagesOf b feedback ⌝ }
+{
+    (value(b.drift, 1) + value(b.failed, 2) + value(feedback.fault, 4)) as u8
+}
+
+fn offered_of(s: Seen, c: Causes) -> u8
+    ensures { λ r. ⌜ r ≡ offeredOf s c ⌝ }
+{
+    (value(would_drop(s, true, false, c), 1) + value(would_drop(s, false, true, c), 2)) as u8
+}
+
+// Whether the shown curve's permitted boundary is reached.
+fn is_over(train: Train, kept: Kept, shown: Candidate) -> bool
+    ensures { λ r. ⌜ r ≡ isOver train kept shown ⌝ }
+{
+    let curve = shown.curve;
+    let braking = braking_of(train, kept.halka);
+    let leads = braking.leads;
+    curve::reached(curve, braking.level, kept.speed, leads.permitted)
+}
+
+fn shown_fields(over: bool, insufficient: bool, shown: Candidate) -> Shown
+    ensures { λ r. ⌜ (r .id ∷ r .interval ∷ r .bar ∷ r .mode ∷ []) ≡ shownFields over insufficient shown ⌝ }
+{
+    let curve = shown.curve;
+    let judged = shown.judged;
+    if judged.held {
+        let interval = shown_as(shown);
+        return Shown {
+            id: curve.id,
+            interval: curve::number_of(interval),
+            bar: bar_number(bar_of(interval)),
+            mode: mode_number(mode_of(over, insufficient, interval)),
+        };
+    }
+    Shown {
+        id: 255,
+        interval: 0,
+        bar: 0,
+        mode: 0,
+    }
+}
+
+// In DA, where the curves say this, VMAX is this and this is seen.
+fn report_in_da(judged: [Judged; PLACES], vmax: u16, seen: Seen, stm: Stm) -> [u8; REPORT_LENGTH]
+    ensures { λ r. ⌜ r ≡ reportWith judged vmax (chosen (stm .track .curves) judged) seen stm ⌝ }
+{
+    let train = stm.train;
+    let track = stm.track;
+    let curves = track.curves;
+    let brakes = stm.brakes;
+    let causes = brakes.causes;
+    let feedback = stm.feedback;
+    let kept = stm.kept;
+    let number = causes_number(causes);
+    let permitted = permitted_speed(vmax, judged);
+    let candidate = chosen(curves, judged);
+    let shown = shown_fields(
+        is_over(train, kept, candidate),
+        is_insufficient(train, feedback),
+        candidate,
+    );
+    [
+        state_number(State::DA),
+        order_number(order_of(train.softly, causes)),
+        high(number),
+        low(number),
+        high(permitted),
+        low(permitted),
+        high(vmax),
+        low(vmax),
+        shown.id,
+        shown.interval,
+        shown.bar,
+        shown.mode,
+        messages_of(brakes, feedback),
+        offered_of(seen, causes),
+    ]
+}
+
+// Outside DA.
+fn report_outside(
+    state: State,
+    order: u8,
+    brakes: Brakes,
+    feedback: Measured,
+) -> [u8; REPORT_LENGTH]
+    ensures { λ r. ⌜ r ≡ fields (stateNumber state) order 0 0 0 (255 ∷ 0 ∷ 0 ∷ 0 ∷ []) (messagesOf brakes feedback) 0 ⌝ }
+{
+    [
+        state_number(state),
+        order,
+        0,
+        0,
+        0,
+        0,
+        0,
+        0,
+        255,
+        0,
+        0,
+        0,
+        messages_of(brakes, feedback),
+        0,
+    ]
+}
+
+// The order outside DA: emergency in FA, and none.
+fn order_outside(state: State) -> u8
+    ensures { λ r. ⌜ r ≡ cond (isState State.FA state) 3 0 ⌝ }
+{
+    if is_state(State::FA, state) { 3 } else { 0 }
+}
+
+// In DA, with all that is looked at judged here.
+fn report_now(stm: Stm) -> [u8; REPORT_LENGTH]
+    ensures { λ r. ⌜ r ≡ reportInDA stm ⌝ }
+{
+    let train = stm.train;
+    let track = stm.track;
+    let curves = track.curves;
+    let brakes = stm.brakes;
+    let since = brakes.since;
+    let roll = brakes.roll;
+    let feedback = stm.feedback;
+    let kept = stm.kept;
+    let judged = judge_now(train, kept, curves);
+    let vmax = vmax_of(train, track);
+    report_in_da(
+        judged,
+        vmax,
+        seen_with(judged, vmax, train, feedback, kept, since, roll),
+        stm,
+    )
+}
+
+// The report of a state.
+fn report_of(stm: Stm) -> [u8; REPORT_LENGTH]
+    ensures { λ r. ⌜ r ≡ reportOf stm ⌝ }
+{
+    let control = stm.control;
+    let state = control.state;
+    if is_state(State::DA, state) {
+        return report_now(stm);
+    }
+    let brakes = stm.brakes;
+    let feedback = stm.feedback;
+    report_outside(state, order_outside(state), brakes, feedback)
+}
+
+// The report of a state of which it is known already what its curves say, its VMAX and what is seen.
+pub fn report_with(judged: [Judged; PLACES], vmax: u16, seen: Seen, stm: Stm) -> [u8; REPORT_LENGTH]
+    requires { ⌜ (judged ≡ judgedNow (stm .train) (stm .kept) (stm .track .curves)) × (vmax ≡ vmaxOf (stm .train) (stm .track)) × (seen ≡ seenIn stm) ⌝ }
+    ensures { λ r. ⌜ r ≡ reportOf stm ⌝ }
+{
+    let control = stm.control;
+    let state = control.state;
+    if is_state(State::DA, state) {
+        return report_in_da(judged, vmax, seen, stm);
+    }
+    report_of(stm)
+}
+
+// A state with its report.
+pub fn told(stm: Stm) -> Reported
+    ensures { λ r. ⌜ (r .stm ≡ stm) × (r .report ≡ reportOf stm) ⌝ }
+{
+    Reported {
+        stm,
+        report: report_of(stm),
+    }
+}

@@ -1,0 +1,146 @@
+// The shown curve, its bar and its mode.
+ghost use mathlib.Core.Path.{_≡_};
+ghost use Rattle.rules.specs.Shows.{noCandidate, isLower, goesBefore, chosenOf, chosen, shownAs, computedBar, barOf, computedMode, modeOf};
+use crate::curves::free_curve;
+use curve::Curve;
+use curve::Interval;
+use curve::Judged;
+use curve::PLACES;
+use curve::Shown;
+use curve::TOP;
+use rules::Bar;
+use rules::Candidate;
+use rules::Mode;
+
+fn no_candidate() -> Candidate
+    ensures { λ r. ⌜ r ≡ noCandidate ⌝ }
+{
+    Candidate {
+        curve: free_curve(),
+        judged: Judged {
+            held: false,
+            interval: Interval::A,
+            permitted: TOP,
+            brakes: false,
+        },
+    }
+}
+
+// Whether x is lower, or equal and `then` holds.
+fn is_lower(x: u16, y: u16, then: bool) -> bool
+    ensures { λ r. ⌜ r ≡ isLower x y then ⌝ }
+{
+    (x < y) | ((x == y) & then)
+}
+
+// Latest computed interval, then lowest permitted speed, then lowest id.
+fn goes_before(x: Candidate, y: Candidate) -> bool
+    ensures { λ r. ⌜ r ≡ goesBefore x y ⌝ }
+{
+    let jx = x.judged;
+    let jy = y.judged;
+    let cx = x.curve;
+    let cy = y.curve;
+    let ix = jx.interval;
+    let iy = jy.interval;
+    is_lower(
+        curve::rank_of(iy) as u16,
+        curve::rank_of(ix) as u16,
+        is_lower(jx.permitted, jy.permitted, cx.id < cy.id),
+    )
+}
+
+// The one of two that is shown; a place that holds no curve isn't.
+fn chosen_of(best: Candidate, next: Candidate) -> Candidate
+    ensures { λ r. ⌜ r ≡ chosenOf best next ⌝ }
+{
+    let jb = best.judged;
+    let jn = next.judged;
+    if jn.held & (!jb.held | goes_before(next, best)) {
+        next
+    } else {
+        best
+    }
+}
+
+// The shown curve, or none.
+pub fn chosen(curves: [Curve; PLACES], judged: [Judged; PLACES]) -> Candidate
+    ensures { λ r. ⌜ r ≡ chosen curves judged ⌝ }
+{
+    let mut best = no_candidate();
+    for i in 0..PLACES {
+        let curve = curves[i];
+        let j = judged[i];
+        best = chosen_of(best, Candidate { curve, judged: j });
+    }
+    best
+}
+
+// The shown curve's interval as shown.
+pub fn shown_as(shown: Candidate) -> Shown
+    ensures { λ r. ⌜ r ≡ shownAs shown ⌝ }
+{
+    let curve = shown.curve;
+    let judged = shown.judged;
+    let interval = judged.interval;
+    curve::shown_of(curve.past, interval)
+}
+
+fn computed_bar(interval: Interval) -> Bar
+    ensures { λ r. ⌜ r ≡ computedBar interval ⌝ }
+{
+    match interval {
+        Interval::A => Bar::Empty,
+        Interval::Bf => Bar::LightGrey,
+        Interval::B => Bar::Yellow,
+        Interval::C => Bar::Yellow,
+        Interval::D => Bar::Yellow,
+        Interval::E => Bar::Yellow,
+        Interval::F => Bar::Yellow,
+    }
+}
+
+pub fn bar_of(shown: Shown) -> Bar
+    ensures { λ r. ⌜ r ≡ barOf shown ⌝ }
+{
+    match shown {
+        Shown::Ab => Bar::Yellow,
+        Shown::Computed(interval) => computed_bar(interval),
+    }
+}
+
+// `over` is whether the permitted boundary is reached, `insufficient` whether the drop is.
+fn computed_mode(over: bool, insufficient: bool, interval: Interval) -> Mode
+    ensures { λ r. ⌜ r ≡ computedMode over insufficient interval ⌝ }
+{
+    match interval {
+        Interval::A => Mode::Normal,
+        Interval::Bf => Mode::PreIndication,
+        Interval::B => {
+            if over {
+                Mode::Warning
+            } else {
+                Mode::Indication
+            }
+        }
+        Interval::C => Mode::Warning,
+        Interval::D => {
+            if insufficient {
+                Mode::Intervention
+            } else {
+                Mode::Warning
+            }
+        }
+        Interval::E => Mode::Intervention,
+        Interval::F => Mode::Intervention,
+    }
+}
+
+pub fn mode_of(over: bool, insufficient: bool, shown: Shown) -> Mode
+    ensures { λ r. ⌜ r ≡ modeOf over insufficient shown ⌝ }
+{
+    match shown {
+        Shown::Ab => Mode::Indication,
+        Shown::Computed(interval) => computed_mode(over, insufficient, interval),
+    }
+}

@@ -1,0 +1,134 @@
+// The whole track, VMAX and the permitted speed.
+ghost use mathlib.Core.Path.{_≡_};
+ghost use Prim.Native.Nat.{min};
+ghost use mathlib.Core.List.{map, foldr};
+ghost use Rattle.rules.specs.Places.{freshTrack, withCurves, withSections, withForty, movedTrack};
+ghost use Rattle.rules.specs.Speeds.{brakingOf, judgedNow, sectionSpeed, stopSpeed, vmaxOf, permittedSpeed};
+use crate::curves::free_curve;
+use crate::sections::free_section;
+use crate::sections::move_sections;
+use curve::Braking;
+use curve::Curve;
+use curve::Judged;
+use curve::PLACES;
+use rules::Kept;
+use rules::Section;
+use rules::Track;
+use rules::Train;
+
+// No curve, no section, no 40.
+pub fn fresh_track() -> Track
+    ensures { λ r. ⌜ r ≡ freshTrack ⌝ }
+{
+    let curve = free_curve();
+    let section = free_section();
+    Track {
+        curves: [curve; PLACES],
+        sections: [section; PLACES],
+        forty: false,
+    }
+}
+
+pub fn with_curves(track: Track, curves: [Curve; PLACES]) -> Track
+    ensures { λ r. ⌜ r ≡ withCurves track curves ⌝ }
+{
+    let mut next = track;
+    next.curves = curves;
+    next
+}
+
+pub fn with_sections(track: Track, sections: [Section; PLACES]) -> Track
+    ensures { λ r. ⌜ r ≡ withSections track sections ⌝ }
+{
+    let mut next = track;
+    next.sections = sections;
+    next
+}
+
+pub fn with_forty(track: Track, forty: bool) -> Track
+    ensures { λ r. ⌜ r ≡ withForty track forty ⌝ }
+{
+    let mut next = track;
+    next.forty = forty;
+    next
+}
+
+// The track after so many cm moved, of a train of this length in m.
+pub fn moved_track(length: u16, moved: u16, track: Track) -> Track
+    ensures { λ r. ⌜ r ≡ movedTrack length moved track ⌝ }
+{
+    let curves = track.curves;
+    let sections = track.sections;
+    Track {
+        curves: curve::move_all(curves, moved),
+        sections: move_sections(length, moved, sections),
+        forty: track.forty,
+    }
+}
+
+// What the train brings to every curve.
+pub fn braking_of(train: Train, halka: bool) -> Braking
+    ensures { λ r. ⌜ r ≡ brakingOf train halka ⌝ }
+{
+    let times = train.times;
+    Braking {
+        level: curve::level_of(train.full, train.soft, halka),
+        leads: curve::leads_of(times),
+        margin: train.margin,
+    }
+}
+
+// What every curve says at the last odometer figures.
+pub fn judge_now(train: Train, kept: Kept, curves: [Curve; PLACES]) -> [Judged; PLACES]
+    ensures { λ r. ⌜ r ≡ judgedNow train kept curves ⌝ }
+{
+    curve::judge_all(curves, braking_of(train, kept.halka), kept.speed)
+}
+
+fn lower(x: u16, y: u16) -> u16
+    ensures { λ r. ⌜ r ≡ min x y ⌝ }
+{
+    if x <= y { x } else { y }
+}
+
+// A section's speed; a place that holds none leaves the train's.
+fn section_speed(speed: u16, section: Section) -> u16
+    ensures { λ r. ⌜ r ≡ sectionSpeed speed section ⌝ }
+{
+    if section.held { section.speed } else { speed }
+}
+
+fn stop_speed(speed: u16, forty: bool) -> u16
+    ensures { λ r. ⌜ r ≡ stopSpeed speed forty ⌝ }
+{
+    if forty { 40 } else { speed }
+}
+
+// The least of a train's speed and its sections'.
+fn least_speed(speed: u16, sections: [Section; PLACES]) -> u16
+    ensures { λ r. ⌜ r ≡ foldr min speed (map (sectionSpeed speed) sections) ⌝ }
+{
+    let mut least = speed;
+    let mut i = PLACES;
+    while i > 0 {
+        i -= 1;
+        least = lower(section_speed(speed, sections[i]), least);
+    }
+    least
+}
+
+pub fn vmax_of(train: Train, track: Track) -> u16
+    ensures { λ r. ⌜ r ≡ vmaxOf train track ⌝ }
+{
+    let sections = track.sections;
+    lower(
+        stop_speed(train.speed, track.forty),
+        least_speed(train.speed, sections),
+    )
+}
+
+pub fn permitted_speed(vmax: u16, judged: [Judged; PLACES]) -> u16
+    ensures { λ r. ⌜ r ≡ permittedSpeed vmax judged ⌝ }
+{
+    lower(vmax, curve::least_permitted(judged))
+}
