@@ -42,6 +42,11 @@ module _ (test : ℕ → Bool) where
       }
       by false e r = record { within = le-refl (suc n); fails = λ h. e; passes = λ k h g. absurd (omega arith) }
 
+  -- a number at which the test passes is above one at which it fails
+  pub failing-below : {i j : ℕ} → i ≤ j → test i ≡ false → test j ≡ true → i < j
+  failing-below {i} {j} h e p =
+      elim (decLe j i) [ yes g ↦ absurd (never p (rw (le-antisymm g h) e)) | no g ↦ lt-of-not-le g ]
+
   -- no number up to n at which the test fails is above it
   pub failing-within : (n k : ℕ) → k ≤ n → test k ≡ false → k ≤ largestFailing test n
   failing-within n k h e =

@@ -1,11 +1,13 @@
-// Reads raw command bytes from standard input, hands each command to the unit and prints a line for its answer.
+// Reads raw command bytes from standard input, hands each command to the unit and prints a line for its answer, as
+// 01 says. Only reading, calling and writing is done here: the unit, the splitting and the line are proved libraries.
 use line::Line;
-use rules::Stm;
 use wire::Next;
 use wire::REPORT_LENGTH;
 
+// The bytes that are read, and written, at a time.
 const SPACE: usize = 65536;
 
+// The bytes from one place up to another, and none where there are no such.
 fn part(s: &[u8], from: usize, to: usize) -> &[u8] {
     if to <= s.len() {
         if from <= to {
@@ -15,46 +17,68 @@ fn part(s: &[u8], from: usize, to: usize) -> &[u8] {
     &s[..0]
 }
 
-fn flush(output: &[u8], used: usize) {
+// A place so many bytes on; no place lies past the space.
+fn after(at: usize, n: usize) -> usize {
+    if at < SPACE {
+        if n < SPACE {
+            return at + n;
+        }
+    }
+    SPACE
+}
+
+// Writes what stands in the output.
+fn write(output: &[u8; SPACE], used: usize) {
     io::write_all(1, part(output, 0, used));
 }
 
-fn put(output: &mut [u8], used: usize, line: Line) -> usize {
-    let mut at = used;
+// Puts a line after what stands in the output, and tells how much stands there then.
+fn put(output: &mut [u8; SPACE], used: usize, line: Line) -> usize {
     let bytes = line.bytes;
-    let mut i = 0;
-    while i < line.length {
-        if i < 33 {
-            if at < output.len() {
+    let length = line.length;
+    let mut at = used;
+    for i in 0..line::WIDTH {
+        if i < length {
+            if at < SPACE {
                 output[at] = bytes[i];
                 at += 1;
             }
         }
-        i += 1;
     }
     at
 }
 
-fn to_start(input: &mut [u8], from: usize, to: usize) -> usize {
+// Makes room for a line: writes what stands in the output where there is none.
+fn room(output: &[u8; SPACE], used: usize) -> usize {
+    if used < SPACE - line::WIDTH {
+        return used;
+    }
+    write(output, used);
+    0
+}
+
+// Brings the bytes that are left to the front of the input, and tells how many they are.
+fn to_front(input: &mut [u8; SPACE], from: usize, to: usize) -> usize {
     let mut at = 0;
-    let mut i = from;
-    while i < to {
-        if i < input.len() {
-            input[at] = input[i];
-            at += 1;
+    for i in from..to {
+        if i < SPACE {
+            if at < SPACE {
+                input[at] = input[i];
+                at += 1;
+            }
         }
-        i += 1;
     }
     at
 }
 
-fn read_after(input: &mut [u8], at: usize) -> usize {
-    if at <= input.len() {
-        let free = &mut input[at..];
+// Reads into the input after the bytes that are left, and tells how many stand there then.
+fn read_after(input: &mut [u8], left: usize) -> usize {
+    if left <= input.len() {
+        let free = &mut input[left..];
         let got = libc::read(0, free);
-        return at + io::count(got, free);
+        return left + io::count(got, free);
     }
-    at
+    left
 }
 
 fn main() {
@@ -65,6 +89,7 @@ fn main() {
     let mut from = 0;
     let mut to = 0;
     let mut used = 0;
+    // A proved loop ends, and nothing says that the input does: so the turns are counted down.
     let mut turns = u64::MAX;
     while turns > 0 {
         turns -= 1;
@@ -72,24 +97,22 @@ fn main() {
         match wire::next_command(rest) {
             Next::Command(n) => {
                 let outcome = unit::call(stm, part(rest, 0, n), &mut report);
-                stm = outcome.stm;
                 let answer = outcome.answer;
+                stm = outcome.stm;
+                from = after(from, n);
+                used = room(&output, used);
                 used = put(&mut output, used, line::line_of(answer, report));
-                if used > 65000 {
-                    flush(&output, used);
-                    used = 0;
-                }
-                from += n;
             }
             Next::NoCode => {
                 let outcome = unit::call(stm, rest, &mut report);
                 let answer = outcome.answer;
+                used = room(&output, used);
                 used = put(&mut output, used, line::line_of(answer, report));
-                flush(&output, used);
+                write(&output, used);
                 return;
             }
             Next::End => {
-                flush(&output, used);
+                write(&output, used);
                 used = 0;
                 from = 0;
                 to = read_after(&mut input, 0);
@@ -98,16 +121,16 @@ fn main() {
                 }
             }
             Next::Short => {
-                let old = rest.len();
-                let answer = unit::call(stm, rest, &mut report).answer;
-                flush(&output, used);
+                write(&output, used);
                 used = 0;
-                to = to_start(&mut input, from, to);
+                let left = to_front(&mut input, from, to);
                 from = 0;
-                to = read_after(&mut input, to);
-                if to == old {
+                to = read_after(&mut input, left);
+                if to == left {
+                    let outcome = unit::call(stm, part(&input, 0, to), &mut report);
+                    let answer = outcome.answer;
                     used = put(&mut output, used, line::line_of(answer, report));
-                    flush(&output, used);
+                    write(&output, used);
                     return;
                 }
             }

@@ -2,25 +2,15 @@
 // bytes and the report area are lent.
 //
 // No public function has a `requires`: each is defined at every state, at every bytes and at every area.
-mod causes;
-mod check;
 mod commands;
-mod curves;
-mod fields;
-mod numbers;
 mod odometer;
 mod refuse;
-mod release;
 mod report;
-mod sections;
-mod seeing;
-mod shows;
 mod state;
-mod track;
 
-pub use numbers::answer_number;
-pub use numbers::is_answered;
 pub use state::fresh;
+pub use supervision::numbers::answer_number;
+pub use supervision::numbers::is_answered;
 ghost use mathlib.Core.Path.{_≡_};
 ghost use mathlib.Core.Bool.{true, false};
 ghost use lib.ListN.{length};
@@ -29,6 +19,7 @@ ghost use Rattle.rules.specs.Numbers.{isAccepted, isRefused};
 ghost use Rattle.rules.specs.Calls.{callOf, areaOf};
 use rules::Outcome;
 use rules::Stm;
+use supervision::numbers::is_accepted;
 
 // The operand part of a command, a part of the caller's own bytes; empty at refusals 1 to 4.
 pub fn operands(command: &[u8], area: usize) -> &[u8]
@@ -42,7 +33,7 @@ fn outcome_of(stm: Stm, command: &[u8], area: usize) -> Outcome
     ensures { λ r. ⌜ r ≡ callOf stm (now (command .entry)) area ⌝ }
 {
     let answer = refuse::answer_of(stm, command, area);
-    if numbers::is_accepted(answer) {
+    if is_accepted(answer) {
         let next = commands::accept(command, operands(command, area), stm);
         return Outcome { answer, stm: next };
     }

@@ -7,21 +7,11 @@ ghost use Rattle.rules.specs.declared.State.{State};
 ghost use Rattle.rules.specs.Releases.{releasedBrakes};
 ghost use Rattle.rules.specs.Odometer.{moves, keptOf, measures, isFresh, supervised, reportedIn};
 ghost use Rattle.rules.specs.Reports.{reportOf};
-use crate::check::is_drop;
-use crate::release::added_brakes;
-use crate::release::noted_brakes;
-use crate::release::released_brakes;
 use crate::report::Reported;
 use crate::report::report_with;
 use crate::report::told;
-use crate::seeing::rolled_in;
-use crate::seeing::seen_with;
 use crate::state::with_measured;
 use crate::state::with_track;
-use crate::track::judge_now;
-use crate::track::moved_track;
-use crate::track::vmax_of;
-use crate::track::with_curves;
 use pressure::Measured;
 use rules::Brakes;
 use rules::Control;
@@ -31,6 +21,16 @@ use rules::Seen;
 use rules::State;
 use rules::Stm;
 use rules::Train;
+use supervision::check::is_drop;
+use supervision::release::added_brakes;
+use supervision::release::noted_brakes;
+use supervision::release::released_brakes;
+use supervision::seeing::rolled_in;
+use supervision::seeing::seen_with;
+use supervision::track::judge_now;
+use supervision::track::moved_track;
+use supervision::track::vmax_of;
+use supervision::track::with_curves;
 
 // ---- moves and measures
 

@@ -13,22 +13,22 @@ ghost use Rattle.rules.specs.Operands.{codeByte, numberOf};
 ghost use Rattle.rules.specs.Commands.{longest, padded};
 ghost use Rattle.rules.specs.Refusals.{isPath, isAllowed, ordersDA, rule, firstOf, rulesFor, answerOf};
 ghost use Rattle.unit.specs.Forms.{answerBy};
-use crate::curves::all_curves_held;
-use crate::curves::holds_curve;
-use crate::fields::in_range;
-use crate::numbers::code_of;
-use crate::numbers::is_code;
-use crate::numbers::is_state;
-use crate::numbers::state_of;
-use crate::sections::all_sections_held;
-use crate::sections::holds_section;
-use crate::sections::stands_section;
 use crate::state::LONGEST;
 use rules::Answer;
 use rules::Code;
 use rules::State;
 use rules::Stm;
 use rules::Track;
+use supervision::curves::all_curves_held;
+use supervision::curves::holds_curve;
+use supervision::fields::in_range;
+use supervision::numbers::code_of;
+use supervision::numbers::is_code;
+use supervision::numbers::is_state;
+use supervision::numbers::state_of;
+use supervision::sections::all_sections_held;
+use supervision::sections::holds_section;
+use supervision::sections::stands_section;
 use wire::Form;
 use wire::be32;
 use wire::byte_at;
@@ -67,9 +67,9 @@ fn is_path(from: State, to: State) -> bool
     let da = is_state(State::DA, to);
     let fa = is_state(State::FA, to);
     match from {
-        State::DE => cs | (da | fa),
+        State::DE => cs | da | fa,
         State::CS => hs | fa,
-        State::HS => cs | (da | fa),
+        State::HS => cs | da | fa,
         State::DA => cs | fa,
         State::FA => fa,
     }
@@ -202,8 +202,8 @@ fn judge(stm: Stm, command: &[u8], s: &[u8]) -> Answer
     first_of(Tests {
         unstarted: !started & !start,
         zero: number == 0,
-        misnumbered: !start & (!again & !is_next(last, number)),
-        failed: is_state(State::FA, state) & (!start & !again),
+        misnumbered: !start & !again & !is_next(last, number),
+        failed: is_state(State::FA, state) & !start & !again,
         again,
         outside: !in_range(code, s),
         forbidden: !is_allowed(state, code, s),

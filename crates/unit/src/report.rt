@@ -1,4 +1,5 @@
 // The report.
+ghost use Prim.Native.Nat.{_≤_};
 ghost use mathlib.Core.Path.{_≡_};
 ghost use mathlib.Core.Bool.{cond};
 ghost use mathlib.Core.List.{_∷_, []};
@@ -8,23 +9,6 @@ ghost use Rattle.rules.specs.Shows.{chosen};
 ghost use Rattle.rules.specs.Speeds.{judgedNow, vmaxOf};
 ghost use Rattle.rules.specs.Odometer.{seenIn};
 ghost use Rattle.rules.specs.Reports.{causesNumber, messagesOf, offeredOf, isOver, shownFields, fields, reportWith, reportInDA, reportOf};
-use crate::causes::order_of;
-use crate::causes::would_drop;
-use crate::numbers::bar_number;
-use crate::numbers::is_state;
-use crate::numbers::mode_number;
-use crate::numbers::order_number;
-use crate::numbers::state_number;
-use crate::seeing::is_insufficient;
-use crate::seeing::seen_with;
-use crate::shows::bar_of;
-use crate::shows::chosen;
-use crate::shows::mode_of;
-use crate::shows::shown_as;
-use crate::track::braking_of;
-use crate::track::judge_now;
-use crate::track::permitted_speed;
-use crate::track::vmax_of;
 use curve::Judged;
 use curve::PLACES;
 use pressure::Measured;
@@ -36,6 +20,23 @@ use rules::Seen;
 use rules::State;
 use rules::Stm;
 use rules::Train;
+use supervision::causes::order_of;
+use supervision::causes::would_drop;
+use supervision::numbers::bar_number;
+use supervision::numbers::is_state;
+use supervision::numbers::mode_number;
+use supervision::numbers::order_number;
+use supervision::numbers::state_number;
+use supervision::seeing::is_insufficient;
+use supervision::seeing::seen_with;
+use supervision::shows::bar_of;
+use supervision::shows::chosen;
+use supervision::shows::mode_of;
+use supervision::shows::shown_as;
+use supervision::track::braking_of;
+use supervision::track::judge_now;
+use supervision::track::permitted_speed;
+use supervision::track::vmax_of;
 use wire::REPORT_LENGTH;
 use wire::high;
 use wire::low;
@@ -54,9 +55,9 @@ struct Shown {
     mode: u8,
 }
 
-// The value of a bit, where it is set.
+// The value of a bit where it is set, else 0: at most that value.
 fn value(set: bool, bit: u16) -> u16
-    ensures { λ r. ⌜ r ≡ cond set bit 0 ⌝ }
+    ensures { λ r. ⌜ (r ≡ cond set bit 0) × (r ≤ bit) ⌝ }
 {
     if set { bit } else { 0 }
 }

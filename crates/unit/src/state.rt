@@ -2,8 +2,6 @@
 ghost use mathlib.Core.Path.{_≡_};
 ghost use Rattle.rules.specs.Odometer.{withState, withTrack, withBrakes, withMeasured};
 ghost use Rattle.rules.specs.Commands.{freshFeedback, freshKept, freshLast, noTrain, freshWith, freshStm, withLast};
-use crate::release::fresh_brakes;
-use crate::track::fresh_track;
 use curve::Times;
 use pressure::Feed;
 use pressure::Measured;
@@ -16,6 +14,8 @@ use rules::State;
 use rules::Stm;
 use rules::Track;
 use rules::Train;
+use supervision::release::fresh_brakes;
+use supervision::track::fresh_track;
 use wire::REPORT_LENGTH;
 
 // The bytes of the longest command, a start.
@@ -108,11 +108,12 @@ pub fn with_state(stm: Stm, state: State) -> Stm
     ensures { λ r. ⌜ r ≡ withState stm state ⌝ }
 {
     let before = stm.control;
-    let mut next = stm;
-    next.control = Control {
+    let control = Control {
         started: before.started,
         state,
     };
+    let mut next = stm;
+    next.control = control;
     next
 }
 

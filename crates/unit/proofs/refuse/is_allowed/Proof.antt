@@ -1,112 +1,84 @@
+-- `unit::refuse::is_allowed` meets its contract.
 use borrow.Author.Needs.{needs}
 use Rattle.unit.proofs.refuse.is_allowed.Statement.{statement}
 use Rattle.unit.proofs.refuse.is_allowed.Tie as tie
-use Rattle.unit.proofs.refuse.is_allowed.Reads as reads
-use Rattle.unit.proofs.refuse.is_allowed.Lts as lts
-use Rattle.unit.proofs.numbers.is_state.Reads as is-state-reads
-use Rattle.unit.proofs.numbers.state_of.Reads as state-of-reads
-use Rattle.unit.proofs.refuse.is_path.Reads as is-path-reads
-use Rattle.wire.proofs.byte_at.Reads as byte-at-reads
 
--- src/refuse.rt:75:9
 is-state-requires : tie.Need-is-state-requires
-is-state-requires c κs = search needs
+is-state-requires c κs = tt
 
--- src/refuse.rt:76:18
 is-state-requires-2 : tie.Need-is-state-requires-2
-is-state-requires-2 c κs = search needs
+is-state-requires-2 c κs = tt
 
--- src/refuse.rt:78:24
 enum-told : tie.Need-enum-told
 enum-told c = search needs
 
--- src/refuse.rt:79:54
 enum-told-2 : tie.Need-enum-told-2
 enum-told-2 c = search needs
 
--- src/refuse.rt:79:54
 byte-at-requires : tie.Need-byte-at-requires
-byte-at-requires c κs = search needs
+byte-at-requires c κs = tt
 
--- src/refuse.rt:79:45
 state-of-requires : tie.Need-state-of-requires
-state-of-requires c κs = search needs
+state-of-requires c κs = tt
 
--- src/refuse.rt:79:30
 is-path-requires : tie.Need-is-path-requires
-is-path-requires c κs = search needs
+is-path-requires c κs = tt
 
--- src/refuse.rt:80:27
 enum-told-3 : tie.Need-enum-told-3
 enum-told-3 c = search needs
 
--- src/refuse.rt:81:27
 enum-told-4 : tie.Need-enum-told-4
 enum-told-4 c = search needs
 
--- src/refuse.rt:82:27
 enum-told-5 : tie.Need-enum-told-5
 enum-told-5 c = search needs
 
--- src/refuse.rt:83:29
 enum-told-6 : tie.Need-enum-told-6
 enum-told-6 c = search needs
 
--- src/refuse.rt:84:29
 enum-told-7 : tie.Need-enum-told-7
 enum-told-7 c = search needs
 
--- src/refuse.rt:85:29
 enum-told-8 : tie.Need-enum-told-8
 enum-told-8 c = search needs
 
--- src/refuse.rt:86:26
 enum-told-9 : tie.Need-enum-told-9
 enum-told-9 c = search needs
 
--- src/refuse.rt:87:30
 enum-told-10 : tie.Need-enum-told-10
 enum-told-10 c = search needs
 
--- src/refuse.rt:72:1
 returns : tie.Need-returns
-returns c = search needs
+returns c = rw (c .enum-told .given .1)
 
--- src/refuse.rt:72:1
 returns-2 : tie.Need-returns-2
-returns-2 c = ?
+returns-2 c =
+    let o = c .before .before .before in
+    rw (c .is-path .ensures, c .before .state-of .ensures, c .before .before .byte-at .ensures, o .enum-told2 .given .1)
 
--- src/refuse.rt:72:1
 returns-3 : tie.Need-returns-3
-returns-3 c = search needs
+returns-3 c = rw (c .enum-told3 .given .1)
 
--- src/refuse.rt:72:1
 returns-4 : tie.Need-returns-4
-returns-4 c = ?
+returns-4 c = rw (c .enum-told4 .given .1, c .before .before .is-state2 .ensures, c .before .before .before .is-state .ensures)
 
--- src/refuse.rt:72:1
 returns-5 : tie.Need-returns-5
-returns-5 c = ?
+returns-5 c = rw (c .enum-told5 .given .1, c .before .before .is-state2 .ensures, c .before .before .before .is-state .ensures)
 
--- src/refuse.rt:72:1
 returns-6 : tie.Need-returns-6
-returns-6 c = ?
+returns-6 c = rw (c .enum-told6 .given .1, c .before .before .is-state2 .ensures, c .before .before .before .is-state .ensures)
 
--- src/refuse.rt:72:1
 returns-7 : tie.Need-returns-7
-returns-7 c = ?
+returns-7 c = rw (c .enum-told7 .given .1, c .before .before .is-state2 .ensures, c .before .before .before .is-state .ensures)
 
--- src/refuse.rt:72:1
 returns-8 : tie.Need-returns-8
-returns-8 c = ?
+returns-8 c = rw (c .enum-told8 .given .1, c .before .before .before .is-state .ensures)
 
--- src/refuse.rt:72:1
 returns-9 : tie.Need-returns-9
-returns-9 c = ?
+returns-9 c = rw (c .enum-told9 .given .1, c .before .before .is-state2 .ensures, c .before .before .before .is-state .ensures)
 
--- src/refuse.rt:72:1
 returns-10 : tie.Need-returns-10
-returns-10 c = ?
+returns-10 c = rw (c .enum-told10 .given .1, c .before .before .before .is-state .ensures)
 
 pub is-allowed-spec : {M : Type 1} → statement M
 is-allowed-spec =

@@ -1,32 +1,27 @@
-use borrow.Author.Needs.{needs}
+-- `unit::refuse::orders_da` meets its contract.
 use Rattle.unit.proofs.refuse.orders_da.Statement.{statement}
 use Rattle.unit.proofs.refuse.orders_da.Tie as tie
-use Rattle.unit.proofs.refuse.orders_da.Reads as reads
-use Rattle.unit.proofs.refuse.orders_da.Lts as lts
-use Rattle.unit.proofs.numbers.is_code.Reads as is-code-reads
-use Rattle.unit.proofs.numbers.is_state.Reads as is-state-reads
-use Rattle.unit.proofs.numbers.state_of.Reads as state-of-reads
-use Rattle.wire.proofs.byte_at.Reads as byte-at-reads
 
--- src/refuse.rt:94:5
 is-code-requires : tie.Need-is-code-requires
-is-code-requires c κs = search needs
+is-code-requires c κs = tt
 
--- src/refuse.rt:94:69
 byte-at-requires : tie.Need-byte-at-requires
-byte-at-requires c κs = search needs
+byte-at-requires c κs = tt
 
--- src/refuse.rt:94:60
 state-of-requires : tie.Need-state-of-requires
-state-of-requires c κs = search needs
+state-of-requires c κs = tt
 
--- src/refuse.rt:94:40
 is-state-requires : tie.Need-is-state-requires
-is-state-requires c κs = search needs
+is-state-requires c κs = tt
 
--- src/refuse.rt:91:1
 returns : tie.Need-returns
-returns c = ?
+returns c =
+    rw (
+      c .is-state .ensures,
+      c .before .state-of .ensures,
+      c .before .before .byte-at .ensures,
+      c .before .before .before .is-code .ensures,
+    )
 
 pub orders-da-spec : {M : Type 1} → statement M
 orders-da-spec =

@@ -1,42 +1,51 @@
+-- `unit::refuse::padded` meets its contract.
+use Prim.Native.Nat.{_≤_, _-_}
+use mathlib.Core.Path.{_≡_, refl, _∙_}
+use mathlib.Core.List.{_++_}
+use native.Mathlib.Omega.{arith}
+use denote.Ref.{now}
+use lib.ListN.{take, drop, length, replicate}
+use Rattle.laws.proofs.Lists.{copy-past}
+use Rattle.rules.specs.Commands.{longest, padded}
+use Rattle.unit.proofs.Padding.{padded-length, padded-step}
 use Rattle.unit.proofs.refuse.padded.Statement.{statement}
 use Rattle.unit.proofs.refuse.padded.Tie as tie
-use Rattle.unit.proofs.refuse.padded.Reads as reads
-use Rattle.unit.proofs.refuse.padded.Lts as lts
-use Rattle.wire.proofs.byte_at.Reads as byte-at-reads
 
 abbrev Inv-loop : tie.InvT-loop
-Inv-loop command bytes₀ i₀ bytes i = ?
+Inv-loop command bytes₀ i₀ bytes i =
+    (i ≤ longest) × (bytes ≡ take i (padded longest command) ++ drop i (replicate longest 0))
 
 abbrev μ-loop : tie.MeasureT-loop
-μ-loop command bytes₀ i₀ bytes i = ?
+μ-loop command bytes₀ i₀ bytes i = longest - i
 
--- src/refuse.rt:34:5
 loop-holds : tie.Need-loop-holds Inv-loop μ-loop
-loop-holds c = ?
+loop-holds c = (omega arith, refl)
 
--- src/refuse.rt:35:20
 byte-at-requires : tie.Need-byte-at-requires Inv-loop μ-loop
-byte-at-requires c κs = ?
+byte-at-requires c κs = tt
 
--- src/refuse.rt:35:9
 array-write-bytes : tie.Need-array-write-bytes Inv-loop μ-loop
-array-write-bytes c = ?
+array-write-bytes c = omega arith
 
--- src/refuse.rt:34:9
 add-i : tie.Need-add-i Inv-loop μ-loop
-add-i c = ?
+add-i c = omega arith
 
--- src/refuse.rt:34:5
 loop-less : tie.Need-loop-less Inv-loop μ-loop
-loop-less c = ?
+loop-less c = omega arith
 
--- src/refuse.rt:34:5
 loop-again : tie.Need-loop-again Inv-loop μ-loop
-loop-again c = ?
+loop-again c =
+    let o = c .before .before in
+    let s = now (o .before .before .args .command) in
+    let step = padded-step longest s (replicate longest 0) (o .loop .i) (c .byte-at .ensures) (omega arith) refl in
+    (omega arith, rw (o .loop .inv .1) step)
 
--- src/refuse.rt:30:1
 returns : tie.Need-returns Inv-loop μ-loop
-returns c = ?
+returns c =
+    let o = c .before in
+    let s = now (o .before .before .args .command) in
+    o .loop .inv .1
+    ∙ copy-past (padded longest s) (replicate longest 0) (o .loop .i) (rw (padded-length longest s) (omega arith)) (omega arith)
 
 pub padded-spec : {M : Type 1} → statement M
 padded-spec =

@@ -1,37 +1,30 @@
-use borrow.Author.Needs.{needs}
+-- `unit::report::messages_of` meets its contract.
+use native.Mathlib.Omega.{arith}
+use Rattle.rules.specs.Reports.{messagesOf}
 use Rattle.unit.proofs.report.messages_of.Statement.{statement}
 use Rattle.unit.proofs.report.messages_of.Tie as tie
-use Rattle.unit.proofs.report.messages_of.Reads as reads
-use Rattle.unit.proofs.report.messages_of.Lts as lts
-use Rattle.unit.proofs.report.value.Reads as value-reads
 
--- src/report.rt:81:6
 value-requires : tie.Need-value-requires
-value-requires c κs = search needs
+value-requires c κs = tt
 
--- src/report.rt:81:26
 value-requires-2 : tie.Need-value-requires-2
-value-requires-2 c κs = search needs
+value-requires-2 c κs = tt
 
--- src/report.rt:81:6
 add-result : tie.Need-add-result
-add-result c = ?
+add-result c = omega arith
 
--- src/report.rt:81:47
 value-requires-3 : tie.Need-value-requires-3
-value-requires-3 c κs = search needs
+value-requires-3 c κs = tt
 
--- src/report.rt:81:6
 add-result-2 : tie.Need-add-result-2
-add-result-2 c = ?
+add-result-2 c = omega arith
 
--- src/report.rt:81:5
 cast-result : tie.Need-cast-result
-cast-result c = ?
+cast-result c = omega arith
 
--- src/report.rt:78:1
 returns : tie.Need-returns
-returns c = ?
+unfolding messagesOf
+returns c = rw (c .value3 .ensures .0, c .before .value2 .ensures .0, c .before .before .value .ensures .0)
 
 pub messages-of-spec : {M : Type 1} → statement M
 messages-of-spec =

@@ -1,38 +1,32 @@
-use borrow.Author.Needs.{needs}
+-- `unit::report::offered_of` meets its contract.
+use native.Mathlib.Omega.{arith}
+use Rattle.rules.specs.Reports.{offeredOf}
 use Rattle.unit.proofs.report.offered_of.Statement.{statement}
 use Rattle.unit.proofs.report.offered_of.Tie as tie
-use Rattle.unit.proofs.report.offered_of.Reads as reads
-use Rattle.unit.proofs.report.offered_of.Lts as lts
-use Rattle.unit.proofs.causes.would_drop.Reads as would-drop-reads
-use Rattle.unit.proofs.report.value.Reads as value-reads
 
--- src/report.rt:87:12
 would-drop-requires : tie.Need-would-drop-requires
-would-drop-requires c κs = search needs
+would-drop-requires c κs = tt
 
--- src/report.rt:87:6
 value-requires : tie.Need-value-requires
-value-requires c κs = search needs
+value-requires c κs = tt
 
--- src/report.rt:87:54
 would-drop-requires-2 : tie.Need-would-drop-requires-2
-would-drop-requires-2 c κs = search needs
+would-drop-requires-2 c κs = tt
 
--- src/report.rt:87:48
 value-requires-2 : tie.Need-value-requires-2
-value-requires-2 c κs = search needs
+value-requires-2 c κs = tt
 
--- src/report.rt:87:6
 add-result : tie.Need-add-result
-add-result c = ?
+add-result c = omega arith
 
--- src/report.rt:87:5
 cast-result : tie.Need-cast-result
-cast-result c = ?
+cast-result c = omega arith
 
--- src/report.rt:84:1
 returns : tie.Need-returns
-returns c = ?
+unfolding offeredOf
+returns c =
+    let o = c .before .before in
+    rw (c .value2 .ensures .0, c .before .would-drop2 .ensures, o .value .ensures .0, o .before .would-drop .ensures)
 
 pub offered-of-spec : {M : Type 1} → statement M
 offered-of-spec =

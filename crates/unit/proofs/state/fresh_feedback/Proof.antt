@@ -1,17 +1,15 @@
-use borrow.Author.Needs.{needs}
+-- `unit::state::fresh_feedback` meets its contract.
+use lib.Ieee.{ofBits, ofInt}
+use Rattle.rules.specs.Commands.{freshFeedback}
 use Rattle.unit.proofs.state.fresh_feedback.Statement.{statement}
 use Rattle.unit.proofs.state.fresh_feedback.Tie as tie
-use Rattle.unit.proofs.state.fresh_feedback.Reads as reads
-use Rattle.unit.proofs.state.fresh_feedback.Lts as lts
-use Rattle.pressure.proofs.fresh.Reads as fresh-reads
 
--- src/state.rt:28:16
 fresh-requires : tie.Need-fresh-requires
-fresh-requires c κs = search needs
+fresh-requires c κs = tt
 
--- src/state.rt:24:1
 returns : tie.Need-returns
-returns c = ?
+unfolding freshFeedback ofBits ofInt
+returns c = rw (c .fresh .ensures)
 
 pub fresh-feedback-spec : {M : Type 1} → statement M
 fresh-feedback-spec = tie.close (tie.spec fresh-requires returns)

@@ -1,11 +1,12 @@
+-- `unit::state::fresh_kept` meets its contract.
+use mathlib.Core.Path.{refl}
+use Rattle.rules.specs.Commands.{freshKept}
 use Rattle.unit.proofs.state.fresh_kept.Statement.{statement}
 use Rattle.unit.proofs.state.fresh_kept.Tie as tie
-use Rattle.unit.proofs.state.fresh_kept.Reads as reads
-use Rattle.unit.proofs.state.fresh_kept.Lts as lts
 
--- src/state.rt:38:1
 returns : tie.Need-returns
-returns c = ?
+unfolding freshKept
+returns c = refl
 
 pub fresh-kept-spec : {M : Type 1} → statement M
 fresh-kept-spec = tie.close (tie.spec returns)

@@ -1,11 +1,12 @@
+-- `unit::state::no_train` meets its contract.
+use mathlib.Core.Path.{refl}
+use Rattle.rules.specs.Commands.{noTrain}
 use Rattle.unit.proofs.state.no_train.Statement.{statement}
 use Rattle.unit.proofs.state.no_train.Tie as tie
-use Rattle.unit.proofs.state.no_train.Reads as reads
-use Rattle.unit.proofs.state.no_train.Lts as lts
 
--- src/state.rt:58:1
 returns : tie.Need-returns
-returns c = ?
+unfolding noTrain
+returns c = refl
 
 pub no-train-spec : {M : Type 1} → statement M
 no-train-spec = tie.close (tie.spec returns)

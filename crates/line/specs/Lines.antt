@@ -1,0 +1,41 @@
+-- The line of an answer (01, after "Figures to check"): "prints, a line each, the answer and, if accepted or again, a space and the
+-- report in 28 capital hex digits".
+use Prim.Native.Nat.{ℕ, _+_, _/_, _%_}
+use mathlib.Core.Bool.{cond}
+use mathlib.Core.List.{List, [], _∷_, _++_}
+use lib.Dec.{ltb}
+use lib.ListN.{take}
+use Rattle.rules.specs.Numbers.{answerNumber, isAnswered}
+use Rattle.rules.specs.declared.Answer.{Answer}
+use Rattle.line.specs.declared.Line.{Line}
+
+-- a digit up to 15 in ASCII: 0 to 9, then capital A to F
+abbrev pub digitOf : ℕ → ℕ
+digitOf x = cond (ltb x 10) (x + 48) (x + 55)
+
+-- a number of up to three digits
+unfoldable pub decimalOf : ℕ → List ℕ
+decimalOf n =
+    cond (ltb n 10) (digitOf n ∷ [])
+    (cond (ltb n 100) (digitOf (n / 10) ∷ digitOf (n % 10) ∷ [])
+    (digitOf (n / 100) ∷ digitOf (n / 10 % 10) ∷ digitOf (n % 10) ∷ []))
+
+-- two digits for each byte, the high one first
+unfoldable pub hexOf : List ℕ → List ℕ
+hexOf [] = []
+hexOf (byte ∷ bytes) = digitOf (byte / 16) ∷ digitOf (byte % 16) ∷ hexOf bytes
+
+-- space and line feed
+abbrev pub space : ℕ
+space = 32
+
+abbrev pub lineFeed : ℕ
+lineFeed = 10
+
+unfoldable pub lineOf : Answer → List ℕ → List ℕ
+lineOf answer report =
+    (decimalOf (answerNumber answer) ++ cond (isAnswered answer) (space ∷ hexOf report) []) ++ (lineFeed ∷ [])
+
+-- the bytes that a line has
+abbrev pub textOf : Line → List ℕ
+textOf line = take (line .length) (line .bytes)

@@ -1,0 +1,4 @@
+mod Codes
+mod Outside
+mod Padding
+mod Whole

@@ -1,0 +1,15 @@
+-- `unit::report::report_outside` meets its contract.
+use Rattle.unit.proofs.report.report_outside.Statement.{statement}
+use Rattle.unit.proofs.report.report_outside.Tie as tie
+
+state-number-requires : tie.Need-state-number-requires
+state-number-requires c κs = tt
+
+messages-of-requires : tie.Need-messages-of-requires
+messages-of-requires c κs = tt
+
+returns : tie.Need-returns
+returns c = rw (c .messages-of .ensures, c .before .state-number .ensures)
+
+pub report-outside-spec : {M : Type 1} → statement M
+report-outside-spec = tie.close (tie.spec state-number-requires messages-of-requires returns)
