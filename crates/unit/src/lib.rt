@@ -8,18 +8,20 @@ mod refuse;
 mod report;
 mod state;
 
+pub use encoding::numbers::answer_number;
+pub use encoding::numbers::is_answered;
 pub use state::fresh;
-pub use supervision::numbers::answer_number;
-pub use supervision::numbers::is_answered;
 ghost use mathlib.Core.Path.{_≡_};
-ghost use mathlib.Core.Bool.{true, false};
+ghost use mathlib.Core.Bool.{true, false, cond};
+ghost use lib.Dec.{eqb};
 ghost use lib.ListN.{length};
-ghost use Rattle.wire.specs.Form.{operandsOf};
+ghost use Rattle.wire.specs.Form.{reportLength, operandsOf};
 ghost use Rattle.rules.specs.Numbers.{isAccepted, isRefused};
 ghost use Rattle.rules.specs.Calls.{callOf, areaOf};
+use encoding::numbers::is_accepted;
 use rules::Outcome;
 use rules::Stm;
-use supervision::numbers::is_accepted;
+use wire::REPORT_LENGTH;
 
 // The operand part of a command, a part of the caller's own bytes; empty at refusals 1 to 4.
 pub fn operands(command: &[u8], area: usize) -> &[u8]
@@ -40,6 +42,13 @@ fn outcome_of(stm: Stm, command: &[u8], area: usize) -> Outcome
     Outcome { answer, stm }
 }
 
+// Writes a report into an area of its length, and nothing into any other.
+fn write(bytes: [u8; REPORT_LENGTH], report: &mut [u8])
+    ensures { λ _. ⌜ now (report .exit) ≡ cond (eqb reportLength (length (now (report .entry)))) bytes (now (report .entry)) ⌝ }
+{
+    wire::copy_whole(&bytes, report);
+}
+
 // One command. The report area is written whole at answers 0 and 100 and left alone at every other; the state moves
 // at answer 0 only.
 pub fn call(stm: Stm, command: &[u8], report: &mut [u8]) -> Outcome
@@ -54,7 +63,7 @@ pub fn call(stm: Stm, command: &[u8], report: &mut [u8]) -> Outcome
         let next = outcome.stm;
         let last = next.last;
         let bytes = last.report;
-        wire::copy_whole(&bytes, report);
+        write(bytes, report);
     }
     outcome
 }

@@ -12,6 +12,12 @@ use crate::report::report_with;
 use crate::report::told;
 use crate::state::with_measured;
 use crate::state::with_track;
+use brakes::check::is_drop;
+use brakes::release::added_brakes;
+use brakes::release::noted_brakes;
+use brakes::release::released_brakes;
+use brakes::seeing::rolled_in;
+use brakes::seeing::seen_with;
 use pressure::Measured;
 use rules::Brakes;
 use rules::Control;
@@ -21,16 +27,10 @@ use rules::Seen;
 use rules::State;
 use rules::Stm;
 use rules::Train;
-use supervision::check::is_drop;
-use supervision::release::added_brakes;
-use supervision::release::noted_brakes;
-use supervision::release::released_brakes;
-use supervision::seeing::rolled_in;
-use supervision::seeing::seen_with;
-use supervision::track::judge_now;
-use supervision::track::moved_track;
-use supervision::track::vmax_of;
-use supervision::track::with_curves;
+use track::whole::judge_now;
+use track::whole::moved_track;
+use track::whole::vmax_of;
+use track::whole::with_curves;
 
 // ---- moves and measures
 

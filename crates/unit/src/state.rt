@@ -2,6 +2,7 @@
 ghost use mathlib.Core.Path.{_≡_};
 ghost use Rattle.rules.specs.Odometer.{withState, withTrack, withBrakes, withMeasured};
 ghost use Rattle.rules.specs.Commands.{freshFeedback, freshKept, freshLast, noTrain, freshWith, freshStm, withLast};
+use brakes::release::fresh_brakes;
 use curve::Times;
 use pressure::Feed;
 use pressure::Measured;
@@ -14,8 +15,7 @@ use rules::State;
 use rules::Stm;
 use rules::Track;
 use rules::Train;
-use supervision::release::fresh_brakes;
-use supervision::track::fresh_track;
+use track::whole::fresh_track;
 use wire::REPORT_LENGTH;
 
 // The bytes of the longest command, a start.

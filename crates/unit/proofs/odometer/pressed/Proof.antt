@@ -1,17 +1,19 @@
-use borrow.Author.Needs.{needs}
+-- `unit::odometer::pressed` meets its contract.
+use mathlib.Core.Path.{ap, _∙_}
+use mir.Syntax.{w16}
+use mir.ValLaws.{toZ-ofZ}
+use Rattle.pressure.specs.Report.{reported}
 use Rattle.unit.proofs.odometer.pressed.Statement.{statement}
 use Rattle.unit.proofs.odometer.pressed.Tie as tie
-use Rattle.unit.proofs.odometer.pressed.Reads as reads
-use Rattle.unit.proofs.odometer.pressed.Lts as lts
-use Rattle.pressure.proofs.report.Reads as report-reads
 
--- src/odometer.rt:61:5
 report-requires : tie.Need-report-requires
-report-requires c κs = search needs
+report-requires c κs = tt
 
--- src/odometer.rt:56:1
 returns : tie.Need-returns
-returns c = ?
+returns c =
+    c .report .ensures
+    ∙ ap (reported _ _ _)
+    (toZ-ofZ w16 (c .before .before .args .r .external) (record { sfits = c .before .struct-told .given .1 .1 .1 .0 .1 }))
 
 pub pressed-spec : {M : Type 1} → statement M
 pressed-spec = tie.close (tie.spec report-requires returns)

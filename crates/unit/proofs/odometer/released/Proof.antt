@@ -1,21 +1,21 @@
-use borrow.Author.Needs.{needs}
+-- `unit::odometer::released` meets its contract.
+use mathlib.Core.Path.{sym, ap, _∙_}
+use mathlib.Core.Bool.{cond}
+use Rattle.rules.specs.Releases.{releasedBrakes}
 use Rattle.unit.proofs.odometer.released.Statement.{statement}
 use Rattle.unit.proofs.odometer.released.Tie as tie
-use Rattle.unit.proofs.odometer.released.Reads as reads
-use Rattle.unit.proofs.odometer.released.Lts as lts
-use Rattle.unit.proofs.release.released_brakes.Reads as released-brakes-reads
 
--- src/odometer.rt:85:9
 returns : tie.Need-returns
-returns c = ?
+returns c = rw (c .if1 .taken)
 
--- src/odometer.rt:87:5
 released-brakes-requires : tie.Need-released-brakes-requires
-released-brakes-requires c κs = search needs
+released-brakes-requires c κs = tt
 
--- src/odometer.rt:81:1
 returns-2 : tie.Need-returns-2
-returns-2 c = ?
+returns-2 c =
+    let a = c .before .before .args in
+    c .released-brakes .ensures
+    ∙ sym (ap (λ t. cond t (a .b) (releasedBrakes (a .s) (a .loss) (a .text) (a .b))) (c .before .if1 .left))
 
 pub released-spec : {M : Type 1} → statement M
 released-spec = tie.close (tie.spec returns released-brakes-requires returns-2)

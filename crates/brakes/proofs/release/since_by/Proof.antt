@@ -1,0 +1,22 @@
+-- `brakes::release::since_by` meets its contract.
+use Rattle.rules.specs.Releases.{sinceBy}
+use Rattle.brakes.proofs.release.since_by.Statement.{statement}
+use Rattle.brakes.proofs.release.since_by.Tie as tie
+
+is-stop-requires : tie.Need-is-stop-requires
+is-stop-requires c κs = tt
+
+is-stop-requires-2 : tie.Need-is-stop-requires-2
+is-stop-requires-2 c κs = tt
+
+is-stop-requires-3 : tie.Need-is-stop-requires-3
+is-stop-requires-3 c κs = tt
+
+returns : tie.Need-returns
+unfolding sinceBy
+returns c =
+    let o = c .before .before .before in
+    rw (c .before .is-stop3 .ensures, o .is-stop2 .ensures, o .before .before .is-stop .ensures)
+
+pub since-by-spec : {M : Type 1} → statement M
+since-by-spec = tie.close (tie.spec is-stop-requires is-stop-requires-2 is-stop-requires-3 returns)

@@ -1,0 +1,12 @@
+-- `track::shows::no_candidate` meets its contract.
+use Rattle.track.proofs.shows.no_candidate.Statement.{statement}
+use Rattle.track.proofs.shows.no_candidate.Tie as tie
+
+free-curve-requires : tie.Need-free-curve-requires
+free-curve-requires c κs = tt
+
+returns : tie.Need-returns
+returns c = rw (c .free-curve .ensures)
+
+pub no-candidate-spec : {M : Type 1} → statement M
+no-candidate-spec = tie.close (tie.spec free-curve-requires returns)

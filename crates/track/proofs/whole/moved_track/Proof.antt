@@ -1,0 +1,17 @@
+-- `track::whole::moved_track` meets its contract.
+use Rattle.rules.specs.Places.{movedTrack}
+use Rattle.track.proofs.whole.moved_track.Statement.{statement}
+use Rattle.track.proofs.whole.moved_track.Tie as tie
+
+move-all-requires : tie.Need-move-all-requires
+move-all-requires c κs = tt
+
+move-sections-requires : tie.Need-move-sections-requires
+move-sections-requires c κs = tt
+
+returns : tie.Need-returns
+unfolding movedTrack
+returns c = rw (c .move-sections .ensures, c .before .move-all .ensures)
+
+pub moved-track-spec : {M : Type 1} → statement M
+moved-track-spec = tie.close (tie.spec move-all-requires move-sections-requires returns)

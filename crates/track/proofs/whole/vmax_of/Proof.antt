@@ -1,0 +1,20 @@
+-- `track::whole::vmax_of` meets its contract.
+use Rattle.rules.specs.Speeds.{vmaxOf}
+use Rattle.track.proofs.whole.vmax_of.Statement.{statement}
+use Rattle.track.proofs.whole.vmax_of.Tie as tie
+
+stop-speed-requires : tie.Need-stop-speed-requires
+stop-speed-requires c κs = tt
+
+least-speed-requires : tie.Need-least-speed-requires
+least-speed-requires c κs = tt
+
+lower-requires : tie.Need-lower-requires
+lower-requires c κs = tt
+
+returns : tie.Need-returns
+unfolding vmaxOf
+returns c = rw (c .lower .ensures, c .before .least-speed .ensures, c .before .before .stop-speed .ensures)
+
+pub vmax-of-spec : {M : Type 1} → statement M
+vmax-of-spec = tie.close (tie.spec stop-speed-requires least-speed-requires lower-requires returns)

@@ -1,0 +1,274 @@
+-- What an odometer report in DA leaves, where the curves are judged once: their pasts, noted since, change nothing that they say.
+-- Assumes nothing.
+use mathlib.Core.Path.{_≡_, refl, sym, ap, ap₂, _∙_}
+use Prim.Native.Nat.{ℕ}
+use mathlib.Core.Bool.{Bool, true, false, cond}
+use mathlib.Core.List.{List, [], _∷_, zipWith}
+use Rattle.pressure.specs.declared.Measured.{Measured}
+use Rattle.pressure.specs.Report.{reported}
+use Rattle.curve.specs.declared.Curve.{Curve}
+use Rattle.curve.specs.declared.Braking.{Braking}
+use Rattle.curve.specs.declared.Interval.{Interval}
+use Rattle.curve.specs.declared.Judged.{Judged}
+use Rattle.curve.specs.Boundary.{targetOf, isAbove, lineFor, isReached, isReachedF, isReachedAtKmh}
+use Rattle.curve.specs.Intervals.{intervalOf}
+use Rattle.curve.specs.Permitted.{permittedOf}
+use Rattle.curve.specs.Judging.{isFast, brakesAt, judgedOf, notedAt}
+use Rattle.curve.specs.Places.{judgedAll, notedAll}
+use Rattle.rules.specs.Places.{withCurves, movedTrack}
+use Rattle.rules.specs.Speeds.{judgedNow, vmaxOf}
+use Rattle.rules.specs.Checks.{isDrop}
+use Rattle.rules.specs.Releases.{isRolled, notedBrakes, addedBrakes, leftBrakes, releasedBrakes}
+use Rattle.rules.specs.Odometer.{withState, withBrakes, seenWith, seenOf, seenIn, moves, keptOf, measures, notedTrack, notes, adds, releases, isFresh, supervised}
+use Rattle.rules.specs.Reports.{reportOf}
+use Rattle.rules.specs.declared.State.{State}
+use Rattle.rules.specs.declared.Train.{Train}
+use Rattle.rules.specs.declared.Track.{Track}
+use Rattle.rules.specs.declared.Since.{Since}
+use Rattle.rules.specs.declared.Roll.{Roll}
+use Rattle.rules.specs.declared.Brakes.{Brakes}
+use Rattle.rules.specs.declared.Kept.{Kept}
+use Rattle.rules.specs.declared.Reading.{Reading}
+use Rattle.rules.specs.declared.Seen.{Seen}
+use Rattle.rules.specs.declared.Stm.{Stm}
+
+-- ---- the curves
+
+-- what a curve says does not look at its past
+judged-noted : (braking : Braking) (v : ℕ) (curve : Curve) (interval : Interval)
+    → judgedOf braking v (notedAt curve interval) ≡ judgedOf braking v curve
+unfolding judgedOf intervalOf permittedOf brakesAt isFast isReached isReachedF isReachedAtKmh lineFor isAbove targetOf
+judged-noted braking v curve interval = refl
+
+judged-all : (braking : Braking) (v : ℕ) (curves : List Curve)
+    → judgedAll braking v (notedAll curves (judgedAll braking v curves)) ≡ judgedAll braking v curves
+unfolding zipWith
+judged-all braking v [] = refl
+judged-all braking v (curve ∷ curves) =
+    ap₂ _∷_ (judged-noted braking v curve (judgedOf braking v curve .interval)) (judged-all braking v curves)
+
+judged-again : (train : Train) (kept : Kept) (curves : List Curve)
+    → judgedNow train kept (notedAll curves (judgedNow train kept curves)) ≡ judgedNow train kept curves
+unfolding judgedNow
+judged-again train kept curves = judged-all _ _ curves
+
+-- VMAX does not look at the curves
+vmax-again : (train : Train) (track : Track) (curves : List Curve) → vmaxOf train (withCurves track curves) ≡ vmaxOf train track
+unfolding vmaxOf
+vmax-again train track curves = refl
+
+-- what is seen is the same once the pasts are noted
+seen-noted : (train : Train) (track : Track) (feedback : Measured) (kept : Kept) (since : Since) (roll : Roll)
+    → seenOf train (notedTrack train kept track) feedback kept since roll
+    ≡ seenWith (judgedNow train kept (track .curves)) (vmaxOf train track) train feedback kept since roll
+unfolding seenOf notedTrack
+seen-noted train track feedback kept since roll =
+    rw (judged-again train kept (track .curves), vmax-again train track (notedAll (track .curves) (judgedNow train kept (track .curves))))
+
+-- ---- what brakes
+
+-- adding and releasing keep what has been noted since
+added-since : (train : Train) (dropped : Bool) (s : Seen) (b : Brakes) → addedBrakes train dropped s b .since ≡ b .since
+unfolding addedBrakes
+added-since train dropped s b = refl
+
+added-roll : (train : Train) (dropped : Bool) (s : Seen) (b : Brakes) → addedBrakes train dropped s b .roll ≡ b .roll
+unfolding addedBrakes
+added-roll train dropped s b = refl
+
+left-since : (t : Bool) (s : Seen) (loss text : Bool) (b : Brakes) → cond t b (releasedBrakes s loss text b) .since ≡ b .since
+unfolding releasedBrakes leftBrakes
+left-since true s loss text b = refl
+left-since false s loss text b = refl
+
+-- ---- the report, step by step
+
+abbrev pub movedBy : Reading → Stm → Track
+movedBy r stm = movedTrack (stm .train .length) (r .moved) (stm .track)
+
+abbrev pub pressedBy : Reading → Stm → Measured
+pressedBy r stm = reported (stm .feedback .phase) (stm .train .feed) (stm .train .pressure) (r .external)
+
+abbrev pub judgedBy : Reading → Stm → List Judged
+judgedBy r stm = judgedNow (stm .train) (keptOf r) (movedBy r stm .curves)
+
+abbrev pub trackBy : Reading → Stm → Track
+trackBy r stm = withCurves (movedBy r stm) (notedAll (movedBy r stm .curves) (judgedBy r stm))
+
+abbrev pub notedBy : Reading → Stm → Brakes
+notedBy r stm = notedBrakes (stm .train) r (stm .brakes)
+
+-- what is seen, with this rolled ground
+abbrev pub seenBy : Reading → Stm → Roll → Seen
+seenBy r stm roll =
+    seenWith (judgedBy r stm) (vmaxOf (stm .train) (movedBy r stm)) (stm .train) (pressedBy r stm) (keptOf r) (notedBy r stm .since) roll
+
+abbrev pub addedBy : Reading → Stm → Brakes
+addedBy r stm = addedBrakes (stm .train) (isDrop (pressedBy r stm)) (seenBy r stm (notedBy r stm .roll)) (notedBy r stm)
+
+abbrev pub leftBy : Reading → Stm → Brakes
+leftBy r stm =
+    cond (addedBy r stm .failed) (addedBy r stm)
+    (releasedBrakes (seenBy r stm (notedBy r stm .roll)) (isFresh (stm .kept .loss) (r .loss)) (isFresh (stm .kept .text) (r .text)) (addedBy r stm))
+
+-- the state with these brakes, led to FA or not
+abbrev pub stmBy : Reading → Stm → State → Brakes → Stm
+stmBy r stm state brakes = record {
+  control = record { started = stm .control .started; state = state };
+  train = stm .train;
+  track = trackBy r stm;
+  brakes = brakes;
+  feedback = pressedBy r stm;
+  kept = keptOf r;
+  last = stm .last;
+}
+
+abbrev pub nextBy : Reading → Stm → Stm
+nextBy r stm = stmBy r stm (cond (addedBy r stm .failed) State.FA (stm .control .state)) (leftBy r stm)
+
+-- what is seen in such a state
+seen-by : (r : Reading) (stm : Stm) (state : State) (brakes : Brakes) → brakes .since ≡ notedBy r stm .since
+    → seenIn (stmBy r stm state brakes) ≡ seenBy r stm (brakes .roll)
+unfolding seenIn notedTrack
+seen-by r stm state brakes since =
+    rw since (seen-noted (stm .train) (movedBy r stm) (pressedBy r stm) (keptOf r) (notedBy r stm .since) (brakes .roll))
+
+adds-by : (r : Reading) (stm : Stm) → adds (notes r (measures r (moves r stm))) ≡ stmBy r stm (stm .control .state) (addedBy r stm)
+unfolding adds notes measures moves seenIn notedTrack
+adds-by r stm =
+    rw (seen-noted (stm .train) (movedBy r stm) (pressedBy r stm) (keptOf r) (notedBy r stm .since) (notedBy r stm .roll))
+
+-- releases or leads to FA
+by-failed : (t : Bool) (stm : Stm) (brakes : Brakes)
+    → cond t (withState stm State.FA) (withBrakes stm brakes)
+    ≡ withBrakes (withState stm (cond t State.FA (stm .control .state))) (cond t (stm .brakes) brakes)
+by-failed true stm brakes = refl
+by-failed false stm brakes = refl
+
+releases-by : (r : Reading) (stm : Stm) (loss text : Bool)
+    → releases loss text (stmBy r stm (stm .control .state) (addedBy r stm))
+    ≡ stmBy r stm (cond (addedBy r stm .failed) State.FA (stm .control .state))
+    (cond (addedBy r stm .failed) (addedBy r stm) (releasedBrakes (seenBy r stm (notedBy r stm .roll)) loss text (addedBy r stm)))
+unfolding releases
+releases-by r stm loss text =
+    rw (seen-by r stm (stm .control .state) (addedBy r stm) (added-since _ _ _ _) ∙ ap (seenBy r stm) (added-roll _ _ _ _))
+    (by-failed (addedBy r stm .failed) (stmBy r stm (stm .control .state) (addedBy r stm))
+    (releasedBrakes (seenBy r stm (notedBy r stm .roll)) loss text (addedBy r stm)))
+
+supervised-by : (r : Reading) (stm : Stm) → supervised r stm ≡ nextBy r stm
+unfolding supervised
+supervised-by r stm = ap (releases _ _) (adds-by r stm) ∙ releases-by r stm _ _
+
+-- what is seen, with another rolled ground
+abbrev pub rolledIn : Seen → Roll → Seen
+rolledIn s roll = record {
+  speed = s .speed;
+  vmax = s .vmax;
+  margin = s .margin;
+  d = s .d;
+  e = s .e;
+  f = s .f;
+  insufficient = s .insufficient;
+  halka = s .halka;
+  since = s .since;
+  rolled = isRolled roll;
+}
+
+rolled-in : (r : Reading) (stm : Stm) (before after : Roll) → rolledIn (seenBy r stm before) after ≡ seenBy r stm after
+unfolding seenWith
+rolled-in r stm before after = refl
+
+-- what is seen after it
+seen-after : (r : Reading) (stm : Stm) → seenIn (nextBy r stm) ≡ seenBy r stm (leftBy r stm .roll)
+seen-after r stm =
+    seen-by r stm _ (leftBy r stm) (left-since (addedBy r stm .failed) _ _ _ (addedBy r stm) ∙ added-since _ _ _ _)
+
+-- ---- the same in steps, each by those before it
+
+pub record Steps (r : Reading) (stm : Stm) : Type 0 where
+  pub moved : Track
+  pub measured : Measured
+  pub kept : Kept
+  pub judged : List Judged
+  pub vmax : ℕ
+  pub noted : Brakes
+  pub seen : Seen
+  pub dropped : Bool
+  pub added : Brakes
+  pub loss : Bool
+  pub text : Bool
+  pub left : Brakes
+  pub state : State
+  pub curves : List Curve
+  pub track : Track
+  pub moved-is : moved ≡ movedBy r stm
+  pub measured-is : measured ≡ pressedBy r stm
+  pub kept-is : kept ≡ keptOf r
+  pub judged-is : judged ≡ judgedNow (stm .train) kept (moved .curves)
+  pub vmax-is : vmax ≡ vmaxOf (stm .train) moved
+  pub noted-is : noted ≡ notedBy r stm
+  pub seen-is : seen ≡ seenWith judged vmax (stm .train) measured kept (noted .since) (noted .roll)
+  pub dropped-is : dropped ≡ isDrop measured
+  pub added-is : added ≡ addedBrakes (stm .train) dropped seen noted
+  pub loss-is : loss ≡ isFresh (stm .kept .loss) (r .loss)
+  pub text-is : text ≡ isFresh (stm .kept .text) (r .text)
+  pub left-is : left ≡ cond (added .failed) added (releasedBrakes seen loss text added)
+  pub state-is : state ≡ cond (added .failed) State.FA (stm .control .state)
+  pub curves-is : curves ≡ notedAll (moved .curves) judged
+  pub track-is : track ≡ withCurves moved curves
+
+abbrev pub lastOf : {r : Reading} {stm : Stm} → Steps r stm → Stm
+lastOf {r} {stm} s = record {
+  control = record { started = stm .control .started; state = s .state };
+  train = stm .train;
+  track = s .track;
+  brakes = s .left;
+  feedback = s .measured;
+  kept = s .kept;
+  last = stm .last;
+}
+
+last-by : {r : Reading} {stm : Stm} (s : Steps r stm) → lastOf s ≡ nextBy r stm
+last-by s =
+    rw (
+      s .track-is,
+      s .curves-is,
+      s .state-is,
+      s .left-is,
+      s .text-is,
+      s .loss-is,
+      s .added-is,
+      s .dropped-is,
+      s .seen-is,
+      s .noted-is,
+      s .vmax-is,
+      s .judged-is,
+      s .kept-is,
+      s .measured-is,
+      s .moved-is,
+    )
+
+pub last-is : {r : Reading} {stm : Stm} (s : Steps r stm) → lastOf s ≡ supervised r stm
+last-is {r} {stm} s = last-by s ∙ sym (supervised-by r stm)
+
+-- what the curves say, VMAX and what is seen, after it
+pub judged-last : {r : Reading} {stm : Stm} (s : Steps r stm) → s .judged ≡ judgedNow (stm .train) (s .kept) (s .track .curves)
+judged-last {r} {stm} s =
+    rw (s .track-is, s .curves-is, s .judged-is) (sym (judged-again (stm .train) (s .kept) (s .moved .curves)))
+
+pub vmax-last : {r : Reading} {stm : Stm} (s : Steps r stm) → s .vmax ≡ vmaxOf (stm .train) (s .track)
+vmax-last {r} {stm} s = rw (s .track-is, s .vmax-is) (sym (vmax-again (stm .train) (s .moved) (s .curves)))
+
+seen-steps : {r : Reading} {stm : Stm} (s : Steps r stm) → s .seen ≡ seenBy r stm (notedBy r stm .roll)
+seen-steps s = rw (s .seen-is, s .noted-is, s .vmax-is, s .judged-is, s .kept-is, s .measured-is, s .moved-is)
+
+pub seen-last : {r : Reading} {stm : Stm} (s : Steps r stm) → rolledIn (s .seen) (s .left .roll) ≡ seenIn (lastOf s)
+seen-last {r} {stm} s =
+    ap₂ rolledIn (seen-steps s) (ap (λ x. x .brakes .roll) (last-by s))
+    ∙ rolled-in r stm (notedBy r stm .roll) (leftBy r stm .roll)
+    ∙ sym (ap seenIn (last-by s) ∙ seen-after r stm)
+
+-- ---- a state with its report, where the state has another name
+
+pub told-as : {x y z : Stm} {report : List ℕ} → (x ≡ y) × (report ≡ reportOf y) → y ≡ z → (x ≡ z) × (report ≡ reportOf z)
+told-as told e = (told .0 ∙ e, told .1 ∙ ap reportOf e)

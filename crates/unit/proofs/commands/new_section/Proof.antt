@@ -1,0 +1,34 @@
+-- `unit::commands::new_section` meets its contract.
+use Rattle.unit.proofs.commands.new_section.Statement.{statement}
+use Rattle.unit.proofs.commands.new_section.Tie as tie
+
+section-of-requires : tie.Need-section-of-requires
+section-of-requires c κs = tt
+
+give-section-requires : tie.Need-give-section-requires
+give-section-requires c κs = tt
+
+with-sections-requires : tie.Need-with-sections-requires
+with-sections-requires c κs = tt
+
+with-track-requires : tie.Need-with-track-requires
+with-track-requires c κs = tt
+
+returns : tie.Need-returns
+returns c =
+    rw (
+      c .with-track .ensures,
+      c .before .with-sections .ensures,
+      c .before .before .give-section .ensures,
+      c .before .before .before .section-of .ensures,
+    )
+
+pub new-section-spec : {M : Type 1} → statement M
+new-section-spec =
+    tie.close
+    (tie.spec
+    section-of-requires
+    give-section-requires
+    with-sections-requires
+    with-track-requires
+    returns)
