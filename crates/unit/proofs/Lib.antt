@@ -1,7 +1,4 @@
 mod Accepted
 mod Area
-mod Codes
 mod Outside
-mod Padding
 mod Supervising
-mod Whole

@@ -4,7 +4,6 @@
 // No public function has a `requires`: each is defined at every state, at every bytes and at every area.
 mod commands;
 mod odometer;
-mod refuse;
 mod report;
 mod state;
 
@@ -34,7 +33,7 @@ pub fn operands(command: &[u8], area: usize) -> &[u8]
 fn outcome_of(stm: Stm, command: &[u8], area: usize) -> Outcome
     ensures { λ r. ⌜ r ≡ callOf stm (now (command .entry)) area ⌝ }
 {
-    let answer = refuse::answer_of(stm, command, area);
+    let answer = refusals::answer_of(stm, command, area);
     if is_accepted(answer) {
         let next = commands::accept(command, operands(command, area), stm);
         return Outcome { answer, stm: next };

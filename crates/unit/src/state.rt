@@ -7,6 +7,7 @@ use curve::Times;
 use pressure::Feed;
 use pressure::Measured;
 use pressure::Pressures;
+use refusals::LONGEST;
 use rules::Brakes;
 use rules::Control;
 use rules::Kept;
@@ -17,9 +18,6 @@ use rules::Track;
 use rules::Train;
 use track::whole::fresh_track;
 use wire::REPORT_LENGTH;
-
-// The bytes of the longest command, a start.
-pub const LONGEST: usize = 24;
 
 fn fresh_feedback() -> Measured
     ensures { λ r. ⌜ r ≡ freshFeedback ⌝ }

@@ -8,7 +8,7 @@ use Rattle.rules.specs.Numbers.{codeOf}
 use Rattle.rules.specs.Operands.{codeByte}
 use Rattle.rules.specs.Refusals.{firstOf, rulesFor, answerFor, answerOf}
 use Rattle.rules.specs.declared.Stm.{Stm}
-use Rattle.unit.specs.Forms.{answerBy}
+use Rattle.refusals.specs.Forms.{answerBy}
 
 by-form : (form : Form) (stm : Stm) (command : List ℕ)
     → answerBy form (firstOf (rulesFor stm command (codeOf (codeByte command)) (operandPart form command))) ≡ answerFor form stm command

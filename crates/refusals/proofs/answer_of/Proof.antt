@@ -1,8 +1,8 @@
--- `unit::refuse::answer_of` meets its contract.
+-- `refusals::answer_of` meets its contract.
 use denote.Ref.{now}
-use Rattle.unit.proofs.Whole.{answer-by-form}
-use Rattle.unit.proofs.refuse.answer_of.Statement.{statement}
-use Rattle.unit.proofs.refuse.answer_of.Tie as tie
+use Rattle.refusals.proofs.Whole.{answer-by-form}
+use Rattle.refusals.proofs.answer_of.Statement.{statement}
+use Rattle.refusals.proofs.answer_of.Tie as tie
 
 operands-requires : tie.Need-operands-requires
 operands-requires c κs = tt

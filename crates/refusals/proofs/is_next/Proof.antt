@@ -1,7 +1,7 @@
--- `unit::refuse::is_next` meets its contract.
+-- `refusals::is_next` meets its contract.
 use borrow.Author.Needs.{needs}
-use Rattle.unit.proofs.refuse.is_next.Statement.{statement}
-use Rattle.unit.proofs.refuse.is_next.Tie as tie
+use Rattle.refusals.proofs.is_next.Statement.{statement}
+use Rattle.refusals.proofs.is_next.Tie as tie
 
 slice-aggregate-be32 : tie.Need-slice-aggregate-be32
 slice-aggregate-be32 c = search needs

@@ -1,4 +1,4 @@
--- `unit::refuse::padded` meets its contract.
+-- `refusals::padded` meets its contract.
 use Prim.Native.Nat.{_≤_, _-_}
 use mathlib.Core.Path.{_≡_, refl, _∙_}
 use mathlib.Core.List.{_++_}
@@ -7,9 +7,9 @@ use denote.Ref.{now}
 use lib.ListN.{take, drop, length, replicate}
 use Rattle.laws.proofs.Lists.{copy-past}
 use Rattle.rules.specs.Commands.{longest, padded}
-use Rattle.unit.proofs.Padding.{padded-length, padded-step}
-use Rattle.unit.proofs.refuse.padded.Statement.{statement}
-use Rattle.unit.proofs.refuse.padded.Tie as tie
+use Rattle.refusals.proofs.Padding.{padded-length, padded-step}
+use Rattle.refusals.proofs.padded.Statement.{statement}
+use Rattle.refusals.proofs.padded.Tie as tie
 
 abbrev Inv-loop : tie.InvT-loop
 Inv-loop command bytes₀ i₀ bytes i =

@@ -1,7 +1,7 @@
--- `unit::refuse::is_last` meets its contract.
+-- `refusals::is_last` meets its contract.
 use borrow.Author.Needs.{needs}
-use Rattle.unit.proofs.refuse.is_last.Statement.{statement}
-use Rattle.unit.proofs.refuse.is_last.Tie as tie
+use Rattle.refusals.proofs.is_last.Statement.{statement}
+use Rattle.refusals.proofs.is_last.Tie as tie
 
 padded-requires : tie.Need-padded-requires
 padded-requires c κs = tt

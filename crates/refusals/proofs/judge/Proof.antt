@@ -1,4 +1,4 @@
--- `unit::refuse::judge` meets its contract.
+-- `refusals::judge` meets its contract.
 use Prim.Native.Nat.{ℕ, _+_}
 use mathlib.Core.Path.{_≡_}
 use mathlib.Core.Bool.{Bool, not, _&&_, _||_}
@@ -17,8 +17,8 @@ use Rattle.rules.specs.declared.Answer.{Answer}
 use Rattle.rules.specs.declared.Code.{Code}
 use Rattle.rules.specs.declared.State.{State}
 use Rattle.rules.specs.declared.Stm.{Stm}
-use Rattle.unit.proofs.refuse.judge.Statement.{statement}
-use Rattle.unit.proofs.refuse.judge.Tie as tie
+use Rattle.refusals.proofs.judge.Statement.{statement}
+use Rattle.refusals.proofs.judge.Tie as tie
 
 -- the first rule that applies, by the values of the tests
 judged : (stm : Stm) (command s : List ℕ) {byte : ℕ} {code : Code} {id number : ℕ}

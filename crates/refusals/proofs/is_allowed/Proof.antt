@@ -1,7 +1,7 @@
--- `unit::refuse::is_allowed` meets its contract.
+-- `refusals::is_allowed` meets its contract.
 use borrow.Author.Needs.{needs}
-use Rattle.unit.proofs.refuse.is_allowed.Statement.{statement}
-use Rattle.unit.proofs.refuse.is_allowed.Tie as tie
+use Rattle.refusals.proofs.is_allowed.Statement.{statement}
+use Rattle.refusals.proofs.is_allowed.Tie as tie
 
 is-state-requires : tie.Need-is-state-requires
 is-state-requires c κs = tt

@@ -1,6 +1,6 @@
--- `unit::refuse::orders_da` meets its contract.
-use Rattle.unit.proofs.refuse.orders_da.Statement.{statement}
-use Rattle.unit.proofs.refuse.orders_da.Tie as tie
+-- `refusals::orders_da` meets its contract.
+use Rattle.refusals.proofs.orders_da.Statement.{statement}
+use Rattle.refusals.proofs.orders_da.Tie as tie
 
 is-code-requires : tie.Need-is-code-requires
 is-code-requires c κs = tt

@@ -1,7 +1,7 @@
--- `unit::refuse::first_of` meets its contract.
+-- `refusals::first_of` meets its contract.
 use borrow.Author.Needs.{needs}
-use Rattle.unit.proofs.refuse.first_of.Statement.{statement}
-use Rattle.unit.proofs.refuse.first_of.Tie as tie
+use Rattle.refusals.proofs.first_of.Statement.{statement}
+use Rattle.refusals.proofs.first_of.Tie as tie
 
 returns : tie.Need-returns
 returns c = search needs

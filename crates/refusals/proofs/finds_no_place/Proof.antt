@@ -1,10 +1,10 @@
--- `unit::refuse::finds_no_place` meets its contract.
+-- `refusals::finds_no_place` meets its contract.
 use mathlib.Core.Path.{sym, refl, _∙_}
 use mathlib.Core.Bool.{or-false}
 use Rattle.rules.specs.declared.Code.{Code}
-use Rattle.unit.proofs.Codes.{other-code}
-use Rattle.unit.proofs.refuse.finds_no_place.Statement.{statement}
-use Rattle.unit.proofs.refuse.finds_no_place.Tie as tie
+use Rattle.refusals.proofs.Codes.{other-code}
+use Rattle.refusals.proofs.finds_no_place.Statement.{statement}
+use Rattle.refusals.proofs.finds_no_place.Tie as tie
 
 is-code-requires : tie.Need-is-code-requires
 is-code-requires c κs = tt

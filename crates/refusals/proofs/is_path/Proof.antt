@@ -1,7 +1,7 @@
--- `unit::refuse::is_path` meets its contract.
+-- `refusals::is_path` meets its contract.
 use borrow.Author.Needs.{needs}
-use Rattle.unit.proofs.refuse.is_path.Statement.{statement}
-use Rattle.unit.proofs.refuse.is_path.Tie as tie
+use Rattle.refusals.proofs.is_path.Statement.{statement}
+use Rattle.refusals.proofs.is_path.Tie as tie
 
 is-state-requires : tie.Need-is-state-requires
 is-state-requires c κs = tt

@@ -1,4 +1,6 @@
-// The refusals, in their order.
+// The answer to every command: the refusals of 01 in their order, and the repeat.
+//
+// No public function has a `requires`: each is defined at every value of its parameters.
 ghost use mathlib.Core.Path.{_≡_};
 ghost use mathlib.Core.Bool.{not, _&&_, _||_};
 ghost use mathlib.Core.List.{_∷_, []};
@@ -12,8 +14,7 @@ ghost use Rattle.rules.specs.Places.{holdsCurve, allCurvesHeld, holdsSection, s
 ghost use Rattle.rules.specs.Operands.{codeByte, numberOf};
 ghost use Rattle.rules.specs.Commands.{longest, padded};
 ghost use Rattle.rules.specs.Refusals.{isPath, isAllowed, ordersDA, rule, firstOf, rulesFor, answerOf};
-ghost use Rattle.unit.specs.Forms.{answerBy};
-use crate::state::LONGEST;
+ghost use Rattle.refusals.specs.Forms.{answerBy};
 use encoding::fields::in_range;
 use encoding::numbers::code_of;
 use encoding::numbers::is_code;
@@ -32,6 +33,9 @@ use track::sections::stands_section;
 use wire::Form;
 use wire::be32;
 use wire::byte_at;
+
+// The bytes of the longest command, a start.
+pub const LONGEST: usize = 24;
 
 // The bytes of a command, with 0 after its end.
 pub fn padded(command: &[u8]) -> [u8; LONGEST]

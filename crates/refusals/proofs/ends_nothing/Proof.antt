@@ -1,10 +1,10 @@
--- `unit::refuse::ends_nothing` meets its contract.
+-- `refusals::ends_nothing` meets its contract.
 use mathlib.Core.Path.{sym, refl, _∙_}
 use mathlib.Core.Bool.{or-false}
 use Rattle.rules.specs.declared.Code.{Code}
-use Rattle.unit.proofs.Codes.{other-code}
-use Rattle.unit.proofs.refuse.ends_nothing.Statement.{statement}
-use Rattle.unit.proofs.refuse.ends_nothing.Tie as tie
+use Rattle.refusals.proofs.Codes.{other-code}
+use Rattle.refusals.proofs.ends_nothing.Statement.{statement}
+use Rattle.refusals.proofs.ends_nothing.Tie as tie
 
 is-code-requires : tie.Need-is-code-requires
 is-code-requires c κs = tt
