@@ -1,0 +1,56 @@
+#!/usr/bin/env python3
+"""Writes the records of crates/answers_run, or with `expected` what each must give.
+
+Each case is written by hand from document 01: the area's length, the command, the answer, the report if it is
+written, and whether the command passes refusals 1 to 4, so that it has operands.
+"""
+
+import sys
+
+START = "0100000001" + "0000A0019002BC01F41E14141E0A0F32017C0D"
+DE = "0000000000000000FF0000000000"
+FA = "0403000000000000FF0000000000"
+TO_FA = "020000000204"
+
+CASES = [
+    # 1 comes before 2, 3 and 4, and before any repeat; the area is left alone at every length.
+    (13, START, 1, None, False),
+    (15, START, 1, None, False),
+    (0, START, 1, None, False),
+    (13, "", 1, None, False),
+    (32, "7F", 1, None, False),
+    (14, "", 2, None, False),
+    (14, "7F", 3, None, False),
+    (14, START[:-2], 4, None, False),
+    (14, START + "00", 4, None, False),
+    (14, "01", 4, None, False),
+    # 5: no start yet.
+    (14, "020000000101", 5, None, True),
+    (14, "0100000000" + START[10:], 6, None, True),
+    # A start, again, and again with an area of another length.
+    (14, START, 0, DE, True),
+    (14, START, 100, DE, True),
+    (13, START, 1, None, False),
+    (14, START, 100, DE, True),
+    # 6, 7, 9, 10 and 11 leave the area; none uses up its number.
+    (14, "020000000001", 6, None, True),
+    (14, "020000000301", 7, None, True),
+    (14, "020000000205", 9, None, True),
+    (14, "020000000202", 10, None, True),
+    (14, "020000000203", 11, None, True),
+    (14, "2000000002000000640028" + "00", 10, None, True),
+    # FA by command: again is answered, all else but a start is refused.
+    (14, TO_FA, 0, FA, True),
+    (14, "100000000300000000000003E800", 8, None, True),
+    (14, TO_FA, 100, FA, True),
+    (12, TO_FA, 1, None, False),
+    (14, START, 0, DE, True),
+]
+
+for area, command, answer, report, passes in CASES:
+    code = bytes.fromhex(command)
+    if sys.argv[1:] == ["expected"]:
+        held = report or "AA" * area
+        print(f"answer {answer} area {held} operands {command[10:] if passes else ''}")
+    else:
+        sys.stdout.buffer.write(bytes([area, len(code)]) + code.ljust(32, b"\0"))
