@@ -1,4 +1,6 @@
 -- `track::sections::moved_section` meets its contract.
+use Prim.Native.Nat.{_+_, _*_}
+use native.Mathlib.Omega.{arith}
 use borrow.Author.Needs.{needs}
 use borrow.Author.Tests.{le-leb, lt-leb}
 use Rattle.rules.specs.Places.{movedSection}
@@ -19,7 +21,11 @@ free-section-requires c κs = tt
 
 returns : tie.Need-returns
 unfolding movedSection
-returns c = rw (c .free-section .ensures, c .before .before .before .if1 .taken, le-leb _ _ (c .before .if2 .taken))
+returns c =
+    let o = c .before .before .before in
+    let a = o .before .before .args in
+    let past = le-leb (100 * a .length) (a .section .ground + a .moved) (omega (arith, c .before .if2 .taken)) in
+    rw (c .free-section .ensures, o .if1 .taken, past)
 
 cast-ending-section : tie.Need-cast-ending-section
 cast-ending-section c = search needs
@@ -29,7 +35,11 @@ ending-section-requires c κs = tt
 
 returns-2 : tie.Need-returns-2
 unfolding movedSection
-returns-2 c = rw (c .ending-section .ensures, c .before .before .before .if1 .taken, lt-leb _ _ (c .before .if2 .left))
+returns-2 c =
+    let o = c .before .before .before in
+    let a = o .before .before .args in
+    let short = lt-leb (100 * a .length) (a .section .ground + a .moved) (omega (arith, c .before .if2 .left)) in
+    rw (c .ending-section .ensures, o .if1 .taken, short)
 
 returns-3 : tie.Need-returns-3
 unfolding movedSection
