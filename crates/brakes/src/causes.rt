@@ -33,43 +33,41 @@ pub fn no_causes() -> Causes
 }
 
 // Those of c that are among d too.
-fn common(c: Causes, d: Causes) -> Causes
+fn common(mut c: Causes, d: Causes) -> Causes
     ensures { λ r. ⌜ r ≡ causesFor (λ cause. stands c cause && stands d cause) ⌝ }
 {
-    Causes {
-        overspeed: c.overspeed & d.overspeed,
-        excess: c.excess & d.excess,
-        full: c.full & d.full,
-        soft: c.soft & d.soft,
-        emergency: c.emergency & d.emergency,
-        aimed: c.aimed & d.aimed,
-        unexpected: c.unexpected & d.unexpected,
-        speed: c.speed & d.speed,
-        landslide: c.landslide & d.landslide,
-        balise: c.balise & d.balise,
-        rolling: c.rolling & d.rolling,
-        service: c.service & d.service,
-    }
+    c.overspeed = c.overspeed & d.overspeed;
+    c.excess = c.excess & d.excess;
+    c.full = c.full & d.full;
+    c.soft = c.soft & d.soft;
+    c.emergency = c.emergency & d.emergency;
+    c.aimed = c.aimed & d.aimed;
+    c.unexpected = c.unexpected & d.unexpected;
+    c.speed = c.speed & d.speed;
+    c.landslide = c.landslide & d.landslide;
+    c.balise = c.balise & d.balise;
+    c.rolling = c.rolling & d.rolling;
+    c.service = c.service & d.service;
+    c
 }
 
 // Those of c that are not among d.
-fn without(c: Causes, d: Causes) -> Causes
+fn without(mut c: Causes, d: Causes) -> Causes
     ensures { λ r. ⌜ r ≡ causesFor (λ cause. stands c cause && not (stands d cause)) ⌝ }
 {
-    Causes {
-        overspeed: c.overspeed & !d.overspeed,
-        excess: c.excess & !d.excess,
-        full: c.full & !d.full,
-        soft: c.soft & !d.soft,
-        emergency: c.emergency & !d.emergency,
-        aimed: c.aimed & !d.aimed,
-        unexpected: c.unexpected & !d.unexpected,
-        speed: c.speed & !d.speed,
-        landslide: c.landslide & !d.landslide,
-        balise: c.balise & !d.balise,
-        rolling: c.rolling & !d.rolling,
-        service: c.service & !d.service,
-    }
+    c.overspeed = c.overspeed & !d.overspeed;
+    c.excess = c.excess & !d.excess;
+    c.full = c.full & !d.full;
+    c.soft = c.soft & !d.soft;
+    c.emergency = c.emergency & !d.emergency;
+    c.aimed = c.aimed & !d.aimed;
+    c.unexpected = c.unexpected & !d.unexpected;
+    c.speed = c.speed & !d.speed;
+    c.landslide = c.landslide & !d.landslide;
+    c.balise = c.balise & !d.balise;
+    c.rolling = c.rolling & !d.rolling;
+    c.service = c.service & !d.service;
+    c
 }
 
 // Whether any order stands.
@@ -106,24 +104,18 @@ fn curve_orders(s: Seen) -> bool
 }
 
 // The causes with those ordered at an odometer report; `fault` is bit 11's order.
-pub fn added_at(s: Seen, fault: bool, c: Causes) -> Causes
+pub fn added_at(s: Seen, fault: bool, mut c: Causes) -> Causes
     ensures { λ r. ⌜ r ≡ addedCauses (orderedAt s fault) c ⌝ }
 {
     let curves = curve_orders(s);
-    Causes {
-        overspeed: c.overspeed | reaches(s.speed, s.vmax, 10),
-        excess: c.excess | reaches(s.speed, s.vmax, s.margin),
-        full: c.full | (curves & !s.halka),
-        soft: c.soft | (curves & s.halka),
-        emergency: c.emergency | s.f,
-        aimed: c.aimed,
-        unexpected: c.unexpected,
-        speed: c.speed,
-        landslide: c.landslide,
-        balise: c.balise,
-        rolling: c.rolling | s.rolled,
-        service: c.service | fault,
-    }
+    c.overspeed = c.overspeed | reaches(s.speed, s.vmax, 10);
+    c.excess = c.excess | reaches(s.speed, s.vmax, s.margin);
+    c.full = c.full | (curves & !s.halka);
+    c.soft = c.soft | (curves & s.halka);
+    c.emergency = c.emergency | s.f;
+    c.rolling = c.rolling | s.rolled;
+    c.service = c.service | fault;
+    c
 }
 
 // Whether a command is a stop passed of this kind.
@@ -134,24 +126,16 @@ pub fn is_stop(wanted: u8, code: Code, which: u8) -> bool
 }
 
 // The causes with those ordered by another command, with its first operand.
-pub fn added_by(code: Code, which: u8, c: Causes) -> Causes
+pub fn added_by(code: Code, which: u8, mut c: Causes) -> Causes
     ensures { λ r. ⌜ r ≡ addedCauses (orderedBy code which) c ⌝ }
 {
     let unexpected = is_stop(1, code, which);
-    Causes {
-        overspeed: c.overspeed,
-        excess: c.excess,
-        full: c.full,
-        soft: c.soft,
-        emergency: c.emergency,
-        aimed: c.aimed | is_stop(0, code, which),
-        unexpected: c.unexpected | unexpected,
-        speed: c.speed | unexpected,
-        landslide: c.landslide | is_stop(2, code, which),
-        balise: c.balise | is_code(Code::BaliseError, code),
-        rolling: c.rolling,
-        service: c.service,
-    }
+    c.aimed = c.aimed | is_stop(0, code, which);
+    c.unexpected = c.unexpected | unexpected;
+    c.speed = c.speed | unexpected;
+    c.landslide = c.landslide | is_stop(2, code, which);
+    c.balise = c.balise | is_code(Code::BaliseError, code);
+    c
 }
 
 // ---- the column "Strength"
@@ -223,7 +207,6 @@ fn is_slow(s: Seen) -> bool
 fn releasable(s: Seen, others: bool) -> Causes
     ensures { λ r. ⌜ r ≡ causesFor (releasableWhen s others) ⌝ }
 {
-    let since = s.since;
     let slow = is_slow(s);
     let clear = !s.d;
     Causes {
@@ -232,10 +215,10 @@ fn releasable(s: Seen, others: bool) -> Causes
         full: clear,
         soft: clear,
         emergency: clear,
-        aimed: since.aimed,
-        unexpected: since.unexpected,
+        aimed: s.since.aimed,
+        unexpected: s.since.unexpected,
         speed: slow,
-        landslide: since.landslide,
+        landslide: s.since.landslide,
         balise: 9 * (s.speed as u32) <= 250 * 80,
         rolling: true,
         service: others,
@@ -255,21 +238,20 @@ fn others_releasable(s: Seen, c: Causes) -> bool
 fn dropped(s: Seen, loss: bool, text: bool, c: Causes) -> Causes
     ensures { λ r. ⌜ r ≡ causesFor (isDropped s loss text c) ⌝ }
 {
-    let free = releasable(s, others_releasable(s, c));
-    Causes {
-        overspeed: loss & free.overspeed,
-        excess: loss & free.excess,
-        full: loss & free.full,
-        soft: loss & free.soft,
-        emergency: loss & free.emergency,
-        aimed: loss & free.aimed,
-        unexpected: loss & free.unexpected,
-        speed: loss & free.speed,
-        landslide: loss & free.landslide,
-        balise: loss & free.balise,
-        rolling: text & free.rolling,
-        service: loss & free.service,
-    }
+    let mut free = releasable(s, others_releasable(s, c));
+    free.overspeed = loss & free.overspeed;
+    free.excess = loss & free.excess;
+    free.full = loss & free.full;
+    free.soft = loss & free.soft;
+    free.emergency = loss & free.emergency;
+    free.aimed = loss & free.aimed;
+    free.unexpected = loss & free.unexpected;
+    free.speed = loss & free.speed;
+    free.landslide = loss & free.landslide;
+    free.balise = loss & free.balise;
+    free.rolling = text & free.rolling;
+    free.service = loss & free.service;
+    free
 }
 
 // The causes that are left.

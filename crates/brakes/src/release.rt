@@ -120,13 +120,12 @@ pub fn noted_brakes(train: Train, r: Reading, b: Brakes) -> Brakes
     ensures { λ x. ⌜ x ≡ notedBrakes train r b ⌝ }
 {
     let causes = b.causes;
-    let since = b.since;
     let service = b.service;
     let emergency = b.emergency;
     let roll = b.roll;
     Brakes {
         causes,
-        since: since_at(train.full, r, since),
+        since: since_at(train.full, r, b.since),
         service,
         emergency,
         roll: roll_at(r, roll),
@@ -141,20 +140,17 @@ pub fn noted_brakes(train: Train, r: Reading, b: Brakes) -> Brakes
 fn service_fails(train: Train, dropped: bool, b: Brakes) -> bool
     ensures { λ r. ⌜ r ≡ serviceFails train dropped b ⌝ }
 {
-    let causes = b.causes;
-    let times = train.times;
     let check = b.service;
-    fails_at(any_stands(causes), times.brake, dropped, check)
+    fails_at(any_stands(b.causes), train.times.brake, dropped, check)
 }
 
 // The check of an emergency order fails at T_EBCHK.
 fn emergency_fails(train: Train, dropped: bool, b: Brakes) -> bool
     ensures { λ r. ⌜ r ≡ emergencyFails train dropped b ⌝ }
 {
-    let causes = b.causes;
     let check = b.emergency;
     fails_at(
-        stands_with(Order::Emergency, causes),
+        stands_with(Order::Emergency, b.causes),
         train.check,
         dropped,
         check,
@@ -165,26 +161,24 @@ fn emergency_fails(train: Train, dropped: bool, b: Brakes) -> bool
 pub fn added_brakes(train: Train, dropped: bool, s: Seen, b: Brakes) -> Brakes
     ensures { λ r. ⌜ r ≡ addedBrakes train dropped s b ⌝ }
 {
-    let before = b.causes;
     let since = b.since;
     let service = b.service;
     let emergency = b.emergency;
     let roll = b.roll;
-    let times = train.times;
     let fault = service_fails(train, dropped, b);
-    let after = added_at(s, fault, before);
+    let after = added_at(s, fault, b.causes);
     Brakes {
         causes: after,
         since,
         service: checked_at(
-            any_stands(before),
+            any_stands(b.causes),
             any_stands(after),
-            times.brake,
+            train.times.brake,
             dropped,
             service,
         ),
         emergency: checked_at(
-            stands_with(Order::Emergency, before),
+            stands_with(Order::Emergency, b.causes),
             stands_with(Order::Emergency, after),
             train.check,
             dropped,
@@ -209,7 +203,6 @@ fn roll_left(stood: bool, left: bool, roll: Roll) -> Roll
 fn left_brakes(c: Causes, b: Brakes) -> Brakes
     ensures { λ r. ⌜ r ≡ leftBrakes c b ⌝ }
 {
-    let before = b.causes;
     let since = b.since;
     let service = b.service;
     let emergency = b.emergency;
@@ -220,7 +213,7 @@ fn left_brakes(c: Causes, b: Brakes) -> Brakes
         since,
         service: check_left(any, service),
         emergency: check_left(stands_with(Order::Emergency, c), emergency),
-        roll: roll_left(before.rolling, c.rolling, roll),
+        roll: roll_left(b.causes.rolling, c.rolling, roll),
         drift: b.drift & any,
         failed: b.failed,
     }
@@ -230,8 +223,7 @@ fn left_brakes(c: Causes, b: Brakes) -> Brakes
 pub fn released_brakes(s: Seen, loss: bool, text: bool, b: Brakes) -> Brakes
     ensures { λ r. ⌜ r ≡ releasedBrakes s loss text b ⌝ }
 {
-    let causes = b.causes;
-    left_brakes(left_causes(s, loss, text, causes), b)
+    left_brakes(left_causes(s, loss, text, b.causes), b)
 }
 
 // ---- commands 30 and 32
@@ -250,18 +242,16 @@ fn since_by(code: Code, which: u8, since: Since) -> Since
 pub fn brakes_by(code: Code, which: u8, b: Brakes) -> Brakes
     ensures { λ r. ⌜ r ≡ brakesBy code which b ⌝ }
 {
-    let before = b.causes;
-    let since = b.since;
     let service = b.service;
     let emergency = b.emergency;
     let roll = b.roll;
-    let after = added_by(code, which, before);
+    let after = added_by(code, which, b.causes);
     Brakes {
         causes: after,
-        since: since_by(code, which, since),
-        service: checked_by(any_stands(before), any_stands(after), service),
+        since: since_by(code, which, b.since),
+        service: checked_by(any_stands(b.causes), any_stands(after), service),
         emergency: checked_by(
-            stands_with(Order::Emergency, before),
+            stands_with(Order::Emergency, b.causes),
             stands_with(Order::Emergency, after),
             emergency,
         ),

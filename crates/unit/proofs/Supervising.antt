@@ -21,6 +21,7 @@ use Rattle.rules.specs.Checks.{isDrop}
 use Rattle.rules.specs.Releases.{isRolled, notedBrakes, addedBrakes, leftBrakes, releasedBrakes}
 use Rattle.rules.specs.Odometer.{withState, withBrakes, seenWith, seenOf, seenIn, moves, keptOf, measures, notedTrack, notes, adds, releases, isFresh, supervised}
 use Rattle.rules.specs.Reports.{reportOf}
+use Rattle.rules.specs.Commands.{longest, padded, withLast, remembered}
 use Rattle.rules.specs.declared.State.{State}
 use Rattle.rules.specs.declared.Train.{Train}
 use Rattle.rules.specs.declared.Track.{Track}
@@ -268,7 +269,9 @@ seen-last {r} {stm} s =
     ∙ rolled-in r stm (notedBy r stm .roll) (leftBy r stm .roll)
     ∙ sym (ap seenIn (last-by s) ∙ seen-after r stm)
 
--- ---- a state with its report, where the state has another name
+-- ---- what is kept of it for a repeat
 
-pub told-as : {x y z : Stm} {report : List ℕ} → (x ≡ y) × (report ≡ reportOf y) → y ≡ z → (x ≡ z) × (report ≡ reportOf z)
-told-as told e = (told .0 ∙ e, told .1 ∙ ap reportOf e)
+pub remembered-as : (command : List ℕ) {x y : Stm} {report bytes : List ℕ} → x ≡ y → report ≡ reportOf y → bytes ≡ padded longest command
+    → withLast x (record { bytes = bytes; report = report }) ≡ remembered command y
+unfolding remembered
+remembered-as command e report bytes = rw (e, report, bytes)

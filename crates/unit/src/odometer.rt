@@ -1,27 +1,28 @@
 // An odometer report: in DA it moves, measures, adds causes, then releases; in HS it moves and measures; in DE
 // and CS it only measures.
 ghost use mathlib.Core.Path.{_≡_};
-ghost use mathlib.Core.Bool.{cond};
+ghost use mathlib.Core.Bool.{false, cond};
 ghost use Rattle.pressure.specs.Report.{reported};
 ghost use Rattle.rules.specs.declared.State.{State};
+ghost use Rattle.rules.specs.Numbers.{isState};
 ghost use Rattle.rules.specs.Releases.{releasedBrakes};
 ghost use Rattle.rules.specs.Odometer.{moves, keptOf, measures, isFresh, supervised, reportedIn};
-ghost use Rattle.rules.specs.Reports.{reportOf};
-use crate::report::Reported;
+ghost use Rattle.rules.specs.Commands.{remembered};
+use crate::report::remember;
 use crate::report::report_with;
-use crate::report::told;
-use crate::state::with_measured;
-use crate::state::with_track;
 use brakes::check::is_drop;
 use brakes::release::added_brakes;
 use brakes::release::noted_brakes;
 use brakes::release::released_brakes;
 use brakes::seeing::rolled_in;
 use brakes::seeing::seen_with;
+use encoding::numbers::is_state;
 use pressure::Measured;
+use refusals::padded;
 use rules::Brakes;
 use rules::Control;
 use rules::Kept;
+use rules::Last;
 use rules::Reading;
 use rules::Seen;
 use rules::State;
@@ -39,7 +40,9 @@ fn moved(r: Reading, stm: Stm) -> Stm
 {
     let train = stm.train;
     let track = stm.track;
-    with_track(stm, moved_track(train.length, r.moved, track))
+    let mut next = stm;
+    next.track = moved_track(train.length, r.moved, track);
+    next
 }
 
 fn kept_of(r: Reading) -> Kept
@@ -66,7 +69,10 @@ fn measured(r: Reading, stm: Stm) -> Stm
 {
     let train = stm.train;
     let feedback = stm.feedback;
-    with_measured(stm, pressed(train, feedback, r), kept_of(r))
+    let mut next = stm;
+    next.feedback = pressed(train, feedback, r);
+    next.kept = kept_of(r);
+    next
 }
 
 // ---- in DA
@@ -95,9 +101,10 @@ fn state_after(failed: bool, state: State) -> State
 }
 
 // What the curves say is judged once, and serves causes, release and report.
-fn supervise(r: Reading, stm: Stm) -> Reported
-    ensures { λ x. ⌜ (x .stm ≡ supervised r stm) × (x .report ≡ reportOf (supervised r stm)) ⌝ }
+fn supervise(command: &[u8], r: Reading, stm: Stm) -> Stm
+    ensures { λ x. ⌜ x ≡ remembered (now (command .entry)) (supervised r stm) ⌝ }
 {
+    let mut next = stm;
     let control = stm.control;
     let state = control.state;
     let train = stm.train;
@@ -105,7 +112,6 @@ fn supervise(r: Reading, stm: Stm) -> Reported
     let brakes = stm.brakes;
     let feedback = stm.feedback;
     let before = stm.kept;
-    let last = stm.last;
     let moved = moved_track(train.length, r.moved, track);
     let measured = pressed(train, feedback, r);
     let kept = kept_of(r);
@@ -124,36 +130,47 @@ fn supervise(r: Reading, stm: Stm) -> Reported
         added,
     );
     let roll = left.roll;
-    let next = Stm {
-        control: Control {
-            started: control.started,
-            state: state_after(added.failed, state),
-        },
-        train,
-        track: with_curves(moved, curve::note_all(curves, judged)),
-        brakes: left,
-        feedback: measured,
-        kept,
-        last,
+    let led = Control {
+        started: control.started,
+        state: state_after(added.failed, state),
     };
-    Reported {
-        stm: next,
+    next.control = led;
+    next.track = with_curves(moved, curve::note_all(curves, judged));
+    next.brakes = left;
+    next.feedback = measured;
+    next.kept = kept;
+    let last = Last {
+        bytes: padded(command),
         report: report_with(judged, vmax, rolled_in(seen, roll), next),
-    }
+    };
+    next.last = last;
+    next
 }
 
 // ---- by the state
 
-pub fn take_reading(r: Reading, stm: Stm) -> Reported
-    ensures { λ x. ⌜ (x .stm ≡ reportedIn (stm .control .state) r stm) × (x .report ≡ reportOf (reportedIn (stm .control .state) r stm)) ⌝ }
+fn report_outside_da(r: Reading, stm: Stm) -> Stm
+    requires { ⌜ isState State.DA (stm .control .state) ≡ false ⌝ }
+    ensures { λ x. ⌜ x ≡ reportedIn (stm .control .state) r stm ⌝ }
 {
     let control = stm.control;
     let state = control.state;
     match state {
-        State::DE => told(measured(r, stm)),
-        State::CS => told(measured(r, stm)),
-        State::HS => told(measured(r, moved(r, stm))),
-        State::DA => supervise(r, stm),
-        State::FA => told(stm),
+        State::DE => measured(r, stm),
+        State::CS => measured(r, stm),
+        State::HS => measured(r, moved(r, stm)),
+        State::DA => stm,
+        State::FA => stm,
     }
+}
+
+pub fn take_reading(command: &[u8], r: Reading, stm: Stm) -> Stm
+    ensures { λ x. ⌜ x ≡ remembered (now (command .entry)) (reportedIn (stm .control .state) r stm) ⌝ }
+{
+    let control = stm.control;
+    let state = control.state;
+    if is_state(State::DA, state) {
+        return supervise(command, r, stm);
+    }
+    remember(command, report_outside_da(r, stm))
 }

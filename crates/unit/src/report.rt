@@ -4,15 +4,18 @@ ghost use mathlib.Core.Path.{_≡_};
 ghost use mathlib.Core.Bool.{cond};
 ghost use mathlib.Core.List.{_∷_, []};
 ghost use Rattle.rules.specs.declared.State.{State};
-ghost use Rattle.rules.specs.Numbers.{stateNumber, isState};
+ghost use Rattle.rules.specs.Numbers.{stateNumber, orderNumber, isState};
 ghost use Rattle.rules.specs.Shows.{chosen};
-ghost use Rattle.rules.specs.Speeds.{judgedNow, vmaxOf};
-ghost use Rattle.rules.specs.Odometer.{seenIn};
-ghost use Rattle.rules.specs.Reports.{causesNumber, messagesOf, offeredOf, isOver, shownFields, fields, reportWith, reportInDA, reportOf};
+ghost use Rattle.rules.specs.Speeds.{judgedNow, vmaxOf, permittedSpeed};
+ghost use Rattle.rules.specs.Table.{orderOf};
+ghost use Rattle.rules.specs.Odometer.{isInsufficient, seenIn};
+ghost use Rattle.rules.specs.Commands.{remembered};
+ghost use Rattle.rules.specs.Reports.{causesNumber, messagesOf, offeredOf, isOver, shownFields, fields, reportInDA, reportOf};
 use brakes::causes::order_of;
 use brakes::causes::would_drop;
 use brakes::seeing::is_insufficient;
 use brakes::seeing::seen_with;
+use curve::Curve;
 use curve::Judged;
 use curve::PLACES;
 use encoding::numbers::bar_number;
@@ -21,10 +24,12 @@ use encoding::numbers::mode_number;
 use encoding::numbers::order_number;
 use encoding::numbers::state_number;
 use pressure::Measured;
+use refusals::padded;
 use rules::Brakes;
 use rules::Candidate;
 use rules::Causes;
 use rules::Kept;
+use rules::Last;
 use rules::Seen;
 use rules::State;
 use rules::Stm;
@@ -40,12 +45,6 @@ use track::whole::vmax_of;
 use wire::REPORT_LENGTH;
 use wire::high;
 use wire::low;
-
-// A state and its report.
-pub struct Reported {
-    pub stm: Stm,
-    pub report: [u8; REPORT_LENGTH],
-}
 
 // The four bytes of the shown curve.
 struct Shown {
@@ -124,16 +123,19 @@ fn shown_fields(over: bool, insufficient: bool, shown: Candidate) -> Shown
 }
 
 // In DA, where the curves say this, VMAX is this and this is seen.
-fn report_in_da(judged: [Judged; PLACES], vmax: u16, seen: Seen, stm: Stm) -> [u8; REPORT_LENGTH]
-    ensures { λ r. ⌜ r ≡ reportWith judged vmax (chosen (stm .track .curves) judged) seen stm ⌝ }
+fn report_in_da(
+    judged: [Judged; PLACES],
+    vmax: u16,
+    seen: Seen,
+    train: Train,
+    curves: [Curve; PLACES],
+    brakes: Brakes,
+    feedback: Measured,
+    kept: Kept,
+) -> [u8; REPORT_LENGTH]
+    ensures { λ r. ⌜ r ≡ fields (stateNumber State.DA) (orderNumber (orderOf (train .softly) (brakes .causes))) (causesNumber (brakes .causes)) (permittedSpeed vmax judged) vmax (shownFields (isOver train kept (chosen curves judged)) (isInsufficient train feedback) (chosen curves judged)) (messagesOf brakes feedback) (offeredOf seen (brakes .causes)) ⌝ }
 {
-    let train = stm.train;
-    let track = stm.track;
-    let curves = track.curves;
-    let brakes = stm.brakes;
     let causes = brakes.causes;
-    let feedback = stm.feedback;
-    let kept = stm.kept;
     let number = causes_number(causes);
     let permitted = permitted_speed(vmax, judged);
     let candidate = chosen(curves, judged);
@@ -208,12 +210,8 @@ fn report_now(stm: Stm) -> [u8; REPORT_LENGTH]
     let kept = stm.kept;
     let judged = judge_now(train, kept, curves);
     let vmax = vmax_of(train, track);
-    report_in_da(
-        judged,
-        vmax,
-        seen_with(judged, vmax, train, feedback, kept, since, roll),
-        stm,
-    )
+    let seen = seen_with(judged, vmax, train, feedback, kept, since, roll);
+    report_in_da(judged, vmax, seen, train, curves, brakes, feedback, kept)
 }
 
 // The report of a state.
@@ -238,17 +236,26 @@ pub fn report_with(judged: [Judged; PLACES], vmax: u16, seen: Seen, stm: Stm) ->
     let control = stm.control;
     let state = control.state;
     if is_state(State::DA, state) {
-        return report_in_da(judged, vmax, seen, stm);
+        let train = stm.train;
+        let track = stm.track;
+        let curves = track.curves;
+        let brakes = stm.brakes;
+        let feedback = stm.feedback;
+        let kept = stm.kept;
+        return report_in_da(judged, vmax, seen, train, curves, brakes, feedback, kept);
     }
     report_of(stm)
 }
 
-// A state with its report.
-pub fn told(stm: Stm) -> Reported
-    ensures { λ r. ⌜ (r .stm ≡ stm) × (r .report ≡ reportOf stm) ⌝ }
+// The unit after an accepted command: the command and its report are kept for a repeat.
+pub fn remember(command: &[u8], stm: Stm) -> Stm
+    ensures { λ r. ⌜ r ≡ remembered (now (command .entry)) stm ⌝ }
 {
-    Reported {
-        stm,
+    let mut next = stm;
+    let last = Last {
+        bytes: padded(command),
         report: report_of(stm),
-    }
+    };
+    next.last = last;
+    next
 }

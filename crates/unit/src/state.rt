@@ -1,20 +1,17 @@
-// The state: fresh, and with a part changed.
+// The fresh state.
 ghost use mathlib.Core.Path.{_≡_};
-ghost use Rattle.rules.specs.Odometer.{withState, withTrack, withBrakes, withMeasured};
-ghost use Rattle.rules.specs.Commands.{freshFeedback, freshKept, freshLast, noTrain, freshWith, freshStm, withLast};
+ghost use Rattle.rules.specs.Commands.{freshFeedback, freshKept, freshLast, noTrain, freshWith, freshStm};
 use brakes::release::fresh_brakes;
 use curve::Times;
 use pressure::Feed;
 use pressure::Measured;
 use pressure::Pressures;
 use refusals::LONGEST;
-use rules::Brakes;
 use rules::Control;
 use rules::Kept;
 use rules::Last;
 use rules::State;
 use rules::Stm;
-use rules::Track;
 use rules::Train;
 use track::whole::fresh_track;
 use wire::REPORT_LENGTH;
@@ -100,50 +97,4 @@ pub fn fresh() -> Stm
     ensures { λ r. ⌜ r ≡ freshStm ⌝ }
 {
     fresh_with(false, no_train())
-}
-
-pub fn with_state(stm: Stm, state: State) -> Stm
-    ensures { λ r. ⌜ r ≡ withState stm state ⌝ }
-{
-    let before = stm.control;
-    let control = Control {
-        started: before.started,
-        state,
-    };
-    let mut next = stm;
-    next.control = control;
-    next
-}
-
-pub fn with_track(stm: Stm, track: Track) -> Stm
-    ensures { λ r. ⌜ r ≡ withTrack stm track ⌝ }
-{
-    let mut next = stm;
-    next.track = track;
-    next
-}
-
-pub fn with_brakes(stm: Stm, brakes: Brakes) -> Stm
-    ensures { λ r. ⌜ r ≡ withBrakes stm brakes ⌝ }
-{
-    let mut next = stm;
-    next.brakes = brakes;
-    next
-}
-
-pub fn with_measured(stm: Stm, feedback: Measured, kept: Kept) -> Stm
-    ensures { λ r. ⌜ r ≡ withMeasured stm feedback kept ⌝ }
-{
-    let mut next = stm;
-    next.feedback = feedback;
-    next.kept = kept;
-    next
-}
-
-pub fn with_last(stm: Stm, last: Last) -> Stm
-    ensures { λ r. ⌜ r ≡ withLast stm last ⌝ }
-{
-    let mut next = stm;
-    next.last = last;
-    next
 }

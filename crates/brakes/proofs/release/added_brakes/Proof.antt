@@ -1,4 +1,11 @@
 -- `brakes::release::added_brakes` meets its contract.
+use Prim.Native.Nat.{ℕ}
+use mathlib.Core.Path.{_≡_, _∙_, ap}
+use mathlib.Core.Bool.{Bool, _||_}
+use Rattle.rules.specs.Table.{addedCauses, orderedAt, anyStands, standsWith}
+use Rattle.rules.specs.Checks.{checkedAt}
+use Rattle.rules.specs.declared.Order.{Order}
+use Rattle.rules.specs.declared.Check.{Check}
 use Rattle.rules.specs.Releases.{addedBrakes, causesAt}
 use Rattle.brakes.proofs.release.added_brakes.Statement.{statement}
 use Rattle.brakes.proofs.release.added_brakes.Tie as tie
@@ -30,20 +37,34 @@ checked-at-requires-2 c κs = tt
 emergency-fails-requires : tie.Need-emergency-fails-requires
 emergency-fails-requires c κs = tt
 
+-- a check that was called with two tests, in terms of what those tests are
+checked : (limit : ℕ) (dropped : Bool) (check : Check) {before before′ after after′ : Bool} {result : Check}
+    → result ≡ checkedAt before after limit dropped check → before ≡ before′ → after ≡ after′ → result ≡ checkedAt before′ after′ limit dropped check
+checked limit dropped check e p q = e ∙ (λ i. checkedAt (p i) (q i) limit dropped check)
+
 returns : tie.Need-returns
 unfolding addedBrakes causesAt
 returns c =
-    rw (
-      c .before .emergency-fails .ensures,
-      c .before .before .before .checked-at2 .ensures,
-      c .before .before .before .before .stands-with2 .ensures,
-      c .before .before .before .before .before .stands-with .ensures,
-      c .before .before .before .before .before .before .checked-at .ensures,
-      c .before .before .before .before .before .before .before .any-stands2 .ensures,
-      c .before .before .before .before .before .before .before .before .any-stands .ensures,
-      c .before .before .before .before .before .before .before .before .before .added-at .ensures,
-      c .before .before .before .before .before .before .before .before .before .before .service-fails .ensures,
-    )
+    let m = c .before .before .before in
+    let o = m .before .before .before .before .before .before in
+    let a = o .before .before .before .args in
+    let b = a .b in
+    let fault = o .before .service-fails .ensures in
+    let after = o .added-at .ensures ∙ ap (λ f. addedCauses (orderedAt (a .s) f) (b .causes)) fault in
+    let any = m .before .before .before .before .any-stands2 .ensures ∙ ap anyStands after in
+    let strong = m .before .stands-with2 .ensures ∙ ap (standsWith Order.Emergency) after in
+    λ i. record {
+      causes = after i;
+      since = b .since;
+      service =
+          checked (a .train .times .brake) (a .dropped) (b .service) (m .before .before .before .checked-at .ensures)
+          (m .before .before .before .before .before .any-stands .ensures) any i;
+      emergency =
+          checked (a .train .check) (a .dropped) (b .emergency) (m .checked-at2 .ensures) (m .before .before .stands-with .ensures) strong i;
+      roll = b .roll;
+      drift = b .drift || fault i;
+      failed = b .failed || c .before .emergency-fails .ensures i;
+    }
 
 pub added-brakes-spec : {M : Type 1} → statement M
 added-brakes-spec =

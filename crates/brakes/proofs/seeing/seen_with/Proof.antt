@@ -21,13 +21,20 @@ is-rolled-requires c κs = tt
 returns : tie.Need-returns
 unfolding seenWith
 returns c =
-    rw (
-      c .is-rolled .ensures,
-      c .before .is-insufficient .ensures,
-      c .before .before .any-brakes3 .ensures,
-      c .before .before .before .any-brakes2 .ensures,
-      c .before .before .before .before .any-brakes .ensures,
-    )
+    let o = c .before .before .before .before in
+    let a = o .before .args in
+    λ i. record {
+      speed = a .kept .speed;
+      vmax = a .vmax;
+      margin = a .train .emergency;
+      d = o .any-brakes .ensures i;
+      e = c .before .before .before .any-brakes2 .ensures i;
+      f = c .before .before .any-brakes3 .ensures i;
+      insufficient = c .before .is-insufficient .ensures i;
+      halka = a .kept .halka;
+      since = a .since;
+      rolled = c .is-rolled .ensures i;
+    }
 
 pub seen-with-spec : {M : Type 1} → statement M
 seen-with-spec =

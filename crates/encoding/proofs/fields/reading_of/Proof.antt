@@ -1,7 +1,9 @@
 -- `encoding::fields::reading_of` meets its contract.
+use mathlib.Core.Path.{_∙_, ap}
 use mir.Syntax.{w16}
 use mir.ValLaws.{toZ-ofZ}
-use Rattle.rules.specs.Operands.{readingOf}
+use Rattle.wire.specs.Numbers.{signed}
+use Rattle.rules.specs.Operands.{bitOf, readingOf}
 use Rattle.encoding.proofs.fields.reading_of.Statement.{statement}
 use Rattle.encoding.proofs.fields.reading_of.Tie as tie
 
@@ -43,21 +45,19 @@ unfolding readingOf
 returns c =
     let external = c .before .before .before .before in
     let measured = external .before .before in
-    rw (
-      toZ-ofZ w16 (external .signed162 .result) (record { sfits = external .signed162 .ok }),
-      toZ-ofZ w16 (measured .signed16 .result) (record { sfits = measured .signed16 .ok }),
-      c .bit-of4 .ensures,
-      c .before .bit-of3 .ensures,
-      c .before .before .bit-of2 .ensures,
-      c .before .before .before .bit-of .ensures,
-      external .signed162 .ensures,
-      external .before .be164 .ensures,
-      measured .signed16 .ensures,
-      measured .before .be163 .ensures,
-      measured .before .before .be162 .ensures,
-      measured .before .before .before .be16 .ensures,
-      measured .before .before .before .before .byte-at .ensures,
-    )
+    let m = measured .signed16 in
+    let e = external .signed162 in
+    let buttons = measured .before .before .before .before .byte-at .ensures in
+    λ i. record {
+      speed = measured .before .before .before .be16 .ensures i;
+      moved = measured .before .before .be162 .ensures i;
+      measured = (toZ-ofZ w16 (m .result) (record { sfits = m .ok }) ∙ m .ensures ∙ ap (signed 65536) (measured .before .be163 .ensures)) i;
+      external = (toZ-ofZ w16 (e .result) (record { sfits = e .ok }) ∙ e .ensures ∙ ap (signed 65536) (external .before .be164 .ensures)) i;
+      loss = (c .before .before .before .bit-of .ensures ∙ ap (bitOf 0) buttons) i;
+      text = (c .before .before .bit-of2 .ensures ∙ ap (bitOf 1) buttons) i;
+      halka = (c .before .bit-of3 .ensures ∙ ap (bitOf 2) buttons) i;
+      neutral = (c .bit-of4 .ensures ∙ ap (bitOf 3) buttons) i;
+    }
 
 pub reading-of-spec : {M : Type 1} → statement M
 reading-of-spec =

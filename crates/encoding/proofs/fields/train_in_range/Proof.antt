@@ -1,4 +1,6 @@
 -- `encoding::fields::train_in_range` meets its contract.
+use mathlib.Core.Bool.{_&&_}
+use lib.Dec.{leb}
 use borrow.Author.Needs.{needs}
 use native.Mathlib.Omega.{arith}
 use Rattle.rules.specs.Operands.{trainInRange}
@@ -57,18 +59,20 @@ unfolding trainInRange
 returns c =
     let d = c .before .before .before .before .before .before .before in
     let e = d .before .before .before .before .before .before .before in
-    rw (
-      c .within10 .ensures,
-      c .before .before .within9 .ensures,
-      c .before .before .before .within8 .ensures,
-      c .before .before .before .before .before .within7 .ensures,
-      d .within6 .ensures,
-      d .before .before .before .before .before .within5 .ensures,
-      e .within4 .ensures,
-      e .before .within3 .ensures,
-      e .before .before .within2 .ensures,
-      e .before .before .before .within .ensures,
-    )
+    let times = e .before .before .before .before .before .args .train .times in
+    λ i. e .before .before .before .within .ensures i
+    && e .before .before .within2 .ensures i
+    && e .before .within3 .ensures i
+    && e .within4 .ensures i
+    && d .before .before .before .before .before .within5 .ensures i
+    && leb (times .c) 200
+    && leb (times .permitted) 200
+    && leb (times .bf) 200
+    && d .within6 .ensures i
+    && c .before .before .before .before .before .within7 .ensures i
+    && c .before .before .before .within8 .ensures i
+    && c .before .before .within9 .ensures i
+    && c .within10 .ensures i
 
 pub train-in-range-spec : {M : Type 1} → statement M
 train-in-range-spec =

@@ -1,5 +1,6 @@
 -- `encoding::fields::train_of` meets its contract.
-use Rattle.rules.specs.Operands.{trainOf}
+use mathlib.Core.Path.{_∙_, ap}
+use Rattle.rules.specs.Operands.{bitOf, feedOf, trainOf}
 use Rattle.encoding.proofs.fields.train_of.Statement.{statement}
 use Rattle.encoding.proofs.fields.train_of.Tie as tie
 
@@ -59,25 +60,26 @@ unfolding trainOf
 returns c =
     let d = c .before .before .before .before .before .before in
     let e = d .before .before .before .before .before .before in
-    rw (
-      c .byte-at9 .ensures,
-      c .before .be165 .ensures,
-      c .before .before .byte-at8 .ensures,
-      c .before .before .before .byte-at7 .ensures,
-      c .before .before .before .before .byte-at6 .ensures,
-      c .before .before .before .before .before .be164 .ensures,
-      d .be163 .ensures,
-      d .before .be162 .ensures,
-      d .before .before .be16 .ensures,
-      d .before .before .before .feed-of .ensures,
-      d .before .before .before .before .bit-of2 .ensures,
-      d .before .before .before .before .before .bit-of .ensures,
-      e .byte-at5 .ensures,
-      e .before .byte-at4 .ensures,
-      e .before .before .byte-at3 .ensures,
-      e .before .before .before .byte-at2 .ensures,
-      e .before .before .before .before .byte-at .ensures,
-    )
+    let flags = e .before .before .before .before .byte-at .ensures in
+    λ i. record {
+      softly = (d .before .before .before .before .before .bit-of .ensures ∙ ap (bitOf 0) flags) i;
+      feed = (d .before .before .before .feed-of .ensures ∙ ap feedOf (d .before .before .before .before .bit-of2 .ensures ∙ ap (bitOf 1) flags)) i;
+      speed = d .before .before .be16 .ensures i;
+      length = d .before .be162 .ensures i;
+      full = d .be163 .ensures i;
+      soft = c .before .before .before .before .before .be164 .ensures i;
+      times = record {
+        brake = e .before .before .before .byte-at2 .ensures i;
+        c = e .before .before .byte-at3 .ensures i;
+        permitted = e .before .byte-at4 .ensures i;
+        bf = e .byte-at5 .ensures i;
+      };
+      margin = c .before .before .before .before .byte-at6 .ensures i;
+      emergency = c .before .before .before .byte-at7 .ensures i;
+      sufficient = c .before .before .byte-at8 .ensures i;
+      pressure = c .before .be165 .ensures i;
+      check = c .byte-at9 .ensures i;
+    }
 
 pub train-of-spec : {M : Type 1} → statement M
 train-of-spec =

@@ -11,19 +11,8 @@ end-curve-requires c κs = tt
 with-curves-requires : tie.Need-with-curves-requires
 with-curves-requires c κs = tt
 
-with-track-requires : tie.Need-with-track-requires
-with-track-requires c κs = tt
-
 returns : tie.Need-returns
-returns c =
-    rw (
-      c .with-track .ensures,
-      c .before .with-curves .ensures,
-      c .before .before .end-curve .ensures,
-      c .before .before .before .byte-at .ensures,
-    )
+returns c = rw (c .with-curves .ensures, c .before .end-curve .ensures, c .before .before .byte-at .ensures)
 
 pub curve-ended-spec : {M : Type 1} → statement M
-curve-ended-spec =
-    tie.close
-    (tie.spec byte-at-requires end-curve-requires with-curves-requires with-track-requires returns)
+curve-ended-spec = tie.close (tie.spec byte-at-requires end-curve-requires with-curves-requires returns)

@@ -11,24 +11,8 @@ give-curve-requires c κs = tt
 with-curves-requires : tie.Need-with-curves-requires
 with-curves-requires c κs = tt
 
-with-track-requires : tie.Need-with-track-requires
-with-track-requires c κs = tt
-
 returns : tie.Need-returns
-returns c =
-    rw (
-      c .with-track .ensures,
-      c .before .with-curves .ensures,
-      c .before .before .give-curve .ensures,
-      c .before .before .before .curve-of .ensures,
-    )
+returns c = rw (c .with-curves .ensures, c .before .give-curve .ensures, c .before .before .curve-of .ensures)
 
 pub new-curve-spec : {M : Type 1} → statement M
-new-curve-spec =
-    tie.close
-    (tie.spec
-    curve-of-requires
-    give-curve-requires
-    with-curves-requires
-    with-track-requires
-    returns)
+new-curve-spec = tie.close (tie.spec curve-of-requires give-curve-requires with-curves-requires returns)

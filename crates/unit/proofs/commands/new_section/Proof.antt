@@ -11,24 +11,8 @@ give-section-requires c κs = tt
 with-sections-requires : tie.Need-with-sections-requires
 with-sections-requires c κs = tt
 
-with-track-requires : tie.Need-with-track-requires
-with-track-requires c κs = tt
-
 returns : tie.Need-returns
-returns c =
-    rw (
-      c .with-track .ensures,
-      c .before .with-sections .ensures,
-      c .before .before .give-section .ensures,
-      c .before .before .before .section-of .ensures,
-    )
+returns c = rw (c .with-sections .ensures, c .before .give-section .ensures, c .before .before .section-of .ensures)
 
 pub new-section-spec : {M : Type 1} → statement M
-new-section-spec =
-    tie.close
-    (tie.spec
-    section-of-requires
-    give-section-requires
-    with-sections-requires
-    with-track-requires
-    returns)
+new-section-spec = tie.close (tie.spec section-of-requires give-section-requires with-sections-requires returns)

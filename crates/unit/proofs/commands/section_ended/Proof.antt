@@ -11,24 +11,8 @@ end-section-requires c κs = tt
 with-sections-requires : tie.Need-with-sections-requires
 with-sections-requires c κs = tt
 
-with-track-requires : tie.Need-with-track-requires
-with-track-requires c κs = tt
-
 returns : tie.Need-returns
-returns c =
-    rw (
-      c .with-track .ensures,
-      c .before .with-sections .ensures,
-      c .before .before .end-section .ensures,
-      c .before .before .before .byte-at .ensures,
-    )
+returns c = rw (c .with-sections .ensures, c .before .end-section .ensures, c .before .before .byte-at .ensures)
 
 pub section-ended-spec : {M : Type 1} → statement M
-section-ended-spec =
-    tie.close
-    (tie.spec
-    byte-at-requires
-    end-section-requires
-    with-sections-requires
-    with-track-requires
-    returns)
+section-ended-spec = tie.close (tie.spec byte-at-requires end-section-requires with-sections-requires returns)

@@ -13,33 +13,19 @@ either false b = refl
 with-forty-requires : tie.Need-with-forty-requires
 with-forty-requires c κs = tt
 
-with-track-requires : tie.Need-with-track-requires
-with-track-requires c κs = tt
-
 brakes-by-requires : tie.Need-brakes-by-requires
 brakes-by-requires c κs = tt
-
-with-brakes-requires : tie.Need-with-brakes-requires
-with-brakes-requires c κs = tt
 
 returns : tie.Need-returns
 unfolding stopped
 returns c =
-    let a = c .before .before .before .before .before .before .before .args in
-    rw (
-      c .with-brakes .ensures,
-      c .before .brakes-by .ensures,
-      c .before .before .with-track .ensures,
-      c .before .before .before .with-forty .ensures,
-      either (eqb (a .which) 1) (a .stm .track .forty),
-    )
+    let a = c .before .before .before .before .before .args in
+    rw (c .brakes-by .ensures, c .before .with-forty .ensures, either (eqb (a .which) 1) (a .stm .track .forty))
 
 pub stop-spec : {M : Type 1} → statement M
 stop-spec =
     tie.close
     (tie.spec
     with-forty-requires
-    with-track-requires
     brakes-by-requires
-    with-brakes-requires
     returns)

@@ -9,12 +9,14 @@ pressed-requires c κs = tt
 kept-of-requires : tie.Need-kept-of-requires
 kept-of-requires c κs = tt
 
-with-measured-requires : tie.Need-with-measured-requires
-with-measured-requires c κs = tt
-
 returns : tie.Need-returns
 unfolding measures
-returns c = rw (c .with-measured .ensures, c .before .kept-of .ensures, c .before .before .pressed .ensures)
+returns c = rw (c .kept-of .ensures, c .before .pressed .ensures)
 
 pub measured-spec : {M : Type 1} → statement M
-measured-spec = tie.close (tie.spec pressed-requires kept-of-requires with-measured-requires returns)
+measured-spec =
+    tie.close
+    (tie.spec
+    pressed-requires
+    kept-of-requires
+    returns)

@@ -6,12 +6,13 @@ use Rattle.unit.proofs.odometer.moved.Tie as tie
 moved-track-requires : tie.Need-moved-track-requires
 moved-track-requires c κs = tt
 
-with-track-requires : tie.Need-with-track-requires
-with-track-requires c κs = tt
-
 returns : tie.Need-returns
 unfolding moves
-returns c = rw (c .with-track .ensures, c .before .moved-track .ensures)
+returns c = rw (c .moved-track .ensures)
 
 pub moved-spec : {M : Type 1} → statement M
-moved-spec = tie.close (tie.spec moved-track-requires with-track-requires returns)
+moved-spec =
+    tie.close
+    (tie.spec
+    moved-track-requires
+    returns)

@@ -1,7 +1,7 @@
 -- `unit::odometer::supervise` meets its contract.
 use mathlib.Core.Path.{ap, _∙_}
 use Rattle.rules.specs.Reports.{reportOf}
-use Rattle.unit.proofs.Supervising.{Steps, last-is, judged-last, vmax-last, seen-last}
+use Rattle.unit.proofs.Supervising.{Steps, last-is, judged-last, vmax-last, seen-last, remembered-as}
 use Rattle.unit.proofs.odometer.supervise.Statement.{statement}
 use Rattle.unit.proofs.odometer.supervise.Tie as tie
 
@@ -49,6 +49,9 @@ note-all-requires c κs = tt
 
 with-curves-requires : tie.Need-with-curves-requires
 with-curves-requires c κs = tt
+
+padded-requires : tie.Need-padded-requires
+padded-requires c κs = tt
 
 rolled-in-requires : tie.Need-rolled-in-requires
 rolled-in-requires c κs = tt
@@ -110,13 +113,14 @@ steps c =
 
 report-with-requires : tie.Need-report-with-requires
 report-with-requires c κs =
-    let s = steps (c .before) in
+    let s = steps (c .before .before) in
     (judged-last s, vmax-last s, c .rolled-in .ensures ∙ seen-last s)
 
 returns : tie.Need-returns
 returns c =
-    let e = last-is (steps (c .before .before)) in
-    (e, c .report-with .ensures ∙ ap reportOf e)
+    let padded = c .before .before in
+    let e = last-is (steps (padded .before)) in
+    remembered-as (start (padded .before) .args .command .now) e (c .report-with .ensures ∙ ap reportOf e) (padded .padded .ensures)
 
 pub supervise-spec : {M : Type 1} → statement M
 supervise-spec =
@@ -137,6 +141,7 @@ supervise-spec =
     state-after-requires
     note-all-requires
     with-curves-requires
+    padded-requires
     rolled-in-requires
     report-with-requires
     returns)

@@ -1,107 +1,56 @@
 -- `unit::odometer::take_reading` meets its contract.
-use mathlib.Core.Path.{_≡_, sym, ap, _∙_}
-use Rattle.rules.specs.Odometer.{measures, reportedIn}
+use mathlib.Core.Path.{_≡_, refl, sym, ap, _∙_}
+use mathlib.Core.Bool.{true}
+use Rattle.rules.specs.Numbers.{isState}
+use Rattle.rules.specs.Odometer.{supervised, reportedIn}
+use Rattle.rules.specs.Commands.{remembered}
 use Rattle.rules.specs.declared.State.{State}
 use Rattle.rules.specs.declared.Reading.{Reading}
 use Rattle.rules.specs.declared.Stm.{Stm}
-use Rattle.unit.proofs.Supervising.{told-as}
-use borrow.Author.Needs.{needs}
+use Rattle.rules.proofs.Tests.{impossible}
 use Rattle.unit.proofs.odometer.take_reading.Statement.{statement}
 use Rattle.unit.proofs.odometer.take_reading.Tie as tie
 
--- a report by the state that is known
-known : (r : Reading) (stm : Stm) {state : State} → stm .control .state ≡ state → reportedIn state r stm ≡ reportedIn (stm .control .state) r stm
-known r stm e = sym (ap (λ s. reportedIn s r stm) e)
+-- a report in DA
+in-da : (state : State) (r : Reading) (stm : Stm) → isState State.DA state ≡ true → supervised r stm ≡ reportedIn state r stm
+in-da State.DE r stm e = impossible e
+in-da State.CS r stm e = impossible e
+in-da State.HS r stm e = impossible e
+in-da State.DA r stm e = refl
+in-da State.FA r stm e = impossible e
 
-enum-told : tie.Need-enum-told
-enum-told c = search needs
-
-measured-requires : tie.Need-measured-requires
-measured-requires c κs = tt
-
-told-requires : tie.Need-told-requires
-told-requires c κs = tt
-
-enum-told-2 : tie.Need-enum-told-2
-enum-told-2 c = search needs
-
-measured-requires-2 : tie.Need-measured-requires-2
-measured-requires-2 c κs = tt
-
-told-requires-2 : tie.Need-told-requires-2
-told-requires-2 c κs = tt
-
-enum-told-3 : tie.Need-enum-told-3
-enum-told-3 c = search needs
-
-moved-requires : tie.Need-moved-requires
-moved-requires c κs = tt
-
-measured-requires-3 : tie.Need-measured-requires-3
-measured-requires-3 c κs = tt
-
-told-requires-3 : tie.Need-told-requires-3
-told-requires-3 c κs = tt
-
-enum-told-4 : tie.Need-enum-told-4
-enum-told-4 c = search needs
+is-state-requires : tie.Need-is-state-requires
+is-state-requires c κs = tt
 
 supervise-requires : tie.Need-supervise-requires
 supervise-requires c κs = tt
 
-enum-told-5 : tie.Need-enum-told-5
-enum-told-5 c = search needs
-
-told-requires-4 : tie.Need-told-requires-4
-told-requires-4 c κs = tt
-
 returns : tie.Need-returns
 returns c =
-    let a = c .before .before .before .before .before .args in
-    told-as (c .told .ensures) (c .before .measured .ensures ∙ known (a .r) (a .stm) (c .before .before .enum-told .given .1))
+    let tested = c .before .before in
+    let a = tested .before .before .before .args in
+    c .supervise .ensures
+    ∙ ap (remembered (a .command .now))
+    (in-da (a .stm .control .state) (a .r) (a .stm) (sym (tested .is-state .ensures) ∙ c .before .if1 .taken))
+
+report-outside-da-requires : tie.Need-report-outside-da-requires
+report-outside-da-requires c κs = sym (c .before .is-state .ensures) ∙ c .if1 .left
+
+remember-requires : tie.Need-remember-requires
+remember-requires c κs = tt
 
 returns-2 : tie.Need-returns-2
 returns-2 c =
-    let a = c .before .before .before .before .before .args in
-    told-as (c .told2 .ensures) (c .before .measured2 .ensures ∙ known (a .r) (a .stm) (c .before .before .enum-told2 .given .1))
-
-returns-3 : tie.Need-returns-3
-returns-3 c =
-    let moved = c .before .before in
-    let a = moved .before .before .before .before .args in
-    told-as (c .told3 .ensures)
-    (c .before .measured3 .ensures ∙ ap (measures (a .r)) (moved .moved .ensures) ∙ known (a .r) (a .stm) (moved .before .enum-told3 .given .1))
-
-returns-4 : tie.Need-returns-4
-returns-4 c =
-    let a = c .before .before .before .before .args in
-    told-as (c .supervise .ensures) (known (a .r) (a .stm) (c .before .enum-told4 .given .1))
-
-returns-5 : tie.Need-returns-5
-returns-5 c =
-    let a = c .before .before .before .before .args in
-    told-as (c .told4 .ensures) (known (a .r) (a .stm) (c .before .enum-told5 .given .1))
+    let a = c .before .before .before .before .before .before .args in
+    c .remember .ensures ∙ ap (remembered (a .command .now)) (c .before .report-outside-da .ensures)
 
 pub take-reading-spec : {M : Type 1} → statement M
 take-reading-spec =
     tie.close
     (tie.spec
-    enum-told
-    measured-requires
-    told-requires
-    enum-told-2
-    measured-requires-2
-    told-requires-2
-    enum-told-3
-    moved-requires
-    measured-requires-3
-    told-requires-3
-    enum-told-4
+    is-state-requires
     supervise-requires
-    enum-told-5
-    told-requires-4
     returns
-    returns-2
-    returns-3
-    returns-4
-    returns-5)
+    report-outside-da-requires
+    remember-requires
+    returns-2)

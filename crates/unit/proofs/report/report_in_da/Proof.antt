@@ -1,6 +1,5 @@
 -- `unit::report::report_in_da` meets its contract.
 use mathlib.Core.Path.{sym}
-use Rattle.rules.specs.Reports.{reportWith}
 use Rattle.unit.proofs.report.report_in_da.Statement.{statement}
 use Rattle.unit.proofs.report.report_in_da.Tie as tie
 
@@ -56,7 +55,6 @@ offered-of-requires : tie.Need-offered-of-requires
 offered-of-requires c κs = tt
 
 returns : tie.Need-returns
-unfolding reportWith
 returns c =
     let c4 = c .before .before .before .before in
     let c8 = c4 .before .before .before .before in

@@ -1,5 +1,5 @@
 -- `unit::report::report_now` meets its contract.
-use Rattle.rules.specs.Reports.{reportInDA}
+use Rattle.rules.specs.Reports.{reportWith, reportInDA}
 use Rattle.unit.proofs.Outside.{seen-in}
 use Rattle.unit.proofs.report.report_now.Statement.{statement}
 use Rattle.unit.proofs.report.report_now.Tie as tie
@@ -17,7 +17,7 @@ report-in-da-requires : tie.Need-report-in-da-requires
 report-in-da-requires c κs = tt
 
 returns : tie.Need-returns
-unfolding reportInDA
+unfolding reportInDA reportWith
 returns c =
     let o = c .before .before .before in
     let a = o .before .before .before .before .before .before .before .before .args in
@@ -32,4 +32,9 @@ returns c =
 pub report-now-spec : {M : Type 1} → statement M
 report-now-spec =
     tie.close
-    (tie.spec judge-now-requires vmax-of-requires seen-with-requires report-in-da-requires returns)
+    (tie.spec
+    judge-now-requires
+    vmax-of-requires
+    seen-with-requires
+    report-in-da-requires
+    returns)

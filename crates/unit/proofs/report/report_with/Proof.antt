@@ -1,6 +1,6 @@
 -- `unit::report::report_with` meets its contract.
 use mathlib.Core.Path.{sym, _∙_}
-use Rattle.rules.specs.Reports.{reportInDA}
+use Rattle.rules.specs.Reports.{reportWith, reportInDA}
 use Rattle.unit.proofs.Outside.{report-inside}
 use Rattle.unit.proofs.report.report_with.Statement.{statement}
 use Rattle.unit.proofs.report.report_with.Tie as tie
@@ -12,12 +12,12 @@ report-in-da-requires : tie.Need-report-in-da-requires
 report-in-da-requires c κs = tt
 
 returns : tie.Need-returns
-unfolding reportInDA
+unfolding reportInDA reportWith
 returns c =
-    let o = c .before .before in
-    let s = o .before .before in
+    let taken = c .before .before .before .before .before .before .before in
+    let s = taken .before .before .before in
     rw (
-      report-inside (s .args .stm) (sym (o .is-state .ensures) ∙ c .before .if1 .taken),
+      report-inside (s .args .stm) (sym (taken .before .is-state .ensures) ∙ taken .if1 .taken),
       c .report-in-da .ensures,
       s .pre .0,
       s .pre .1,
@@ -33,4 +33,9 @@ returns-2 c = c .report-of .ensures
 pub report-with-spec : {M : Type 1} → statement M
 report-with-spec =
     tie.close
-    (tie.spec is-state-requires report-in-da-requires returns report-of-requires returns-2)
+    (tie.spec
+    is-state-requires
+    report-in-da-requires
+    returns
+    report-of-requires
+    returns-2)
