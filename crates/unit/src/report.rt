@@ -229,7 +229,12 @@ fn report_of(stm: Stm) -> [u8; REPORT_LENGTH]
 }
 
 // The report of a state of which it is known already what its curves say, its VMAX and what is seen.
-pub fn report_with(judged: [Judged; PLACES], vmax: u16, seen: Seen, stm: Stm) -> [u8; REPORT_LENGTH]
+pub(crate) fn report_with(
+    judged: [Judged; PLACES],
+    vmax: u16,
+    seen: Seen,
+    stm: Stm,
+) -> [u8; REPORT_LENGTH]
     requires { ⌜ (judged ≡ judgedNow (stm .train) (stm .kept) (stm .track .curves)) × (vmax ≡ vmaxOf (stm .train) (stm .track)) × (seen ≡ seenIn stm) ⌝ }
     ensures { λ r. ⌜ r ≡ reportOf stm ⌝ }
 {
