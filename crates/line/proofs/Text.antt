@@ -1,41 +1,52 @@
--- Bytes put after a text one by one, and hexadecimal digits byte by byte. Assumes nothing.
+-- Bytes written in place, and the digits of a number and of a report by them. Assumes nothing.
 use Prim.Native.Nat.{ℕ, _+_, _<_, _≤_, _/_, _%_}
 use mathlib.Core.Path.{_≡_, refl, sym, _∙_, ap}
 use mathlib.Core.List.{List, [], _∷_, _++_, append-assoc}
 use native.Mathlib.Omega.{arith}
 use native.Mathlib.Numerals.{add-one}
-use lib.ListN.{length, take, getD}
-use lib.Seq.{take-suc}
+use lib.ListN.{length, length-set, take, set, getD}
+use lib.Seq.{take-suc, take-suc-set}
 use borrow.Author.Tests.{lt-ltb, le-ltb}
 use Rattle.line.specs.Lines.{digitOf, decimalOf, hexOf}
 
--- a part more, with the part given by an equation; `text` is what stood there, `x` what stands there then
-pub more : (text new part : List ℕ) {x : List ℕ} → x ≡ text ++ part → part ≡ new → x ≡ text ++ new
-more text new part p e = p ∙ ap (λ t. text ++ t) e
+-- one byte and two bytes written at a place
+pub put-one : (l : List ℕ) (i x : ℕ) → i < length l → take (i + 1) (set l i x) ≡ take i l ++ (x ∷ [])
+put-one l i x h = rw add-one (take-suc-set l i x h)
 
--- two parts more are one
-pub joined : (text part new : List ℕ) {x y : List ℕ} → x ≡ text ++ part → y ≡ x ++ new → y ≡ text ++ (part ++ new)
-joined text part new p q = q ∙ ap (λ t. t ++ new) p ∙ append-assoc text part new
+pub put-two : (l : List ℕ) (i x y : ℕ) → i + 1 < length l → take (i + 2) (set (set l i x) (i + 1) y) ≡ take i l ++ (x ∷ y ∷ [])
+put-two l i x y h =
+    let two : i + 2 ≡ i + 1 + 1 = omega arith in
+    rw two (put-one (set l i x) (i + 1) y (rw (length-set l i x) h))
+    ∙ ap (λ t. t ++ (y ∷ [])) (put-one l i x (omega arith)) ∙ append-assoc (take i l) (x ∷ []) (y ∷ [])
 
--- the digits of a number, by how many it has
-pub one-digit : (n : ℕ) → n < 10 → (digitOf n ∷ []) ≡ decimalOf n
+-- the digits of a number written at the front, by how many it has
+pub one-digit : (l : List ℕ) (n : ℕ) {x : ℕ} → 1 ≤ length l → n < 10 → x ≡ digitOf n → take 1 (set l 0 x) ≡ decimalOf n
 unfolding decimalOf
-one-digit n h = rw (lt-ltb n 10 h)
+one-digit l n h k e = put-one l 0 _ h ∙ rw (e, lt-ltb n 10 k)
 
-pub two-digits : (n : ℕ) → 10 ≤ n → n < 100 → (digitOf (n / 10) ∷ digitOf (n % 10) ∷ []) ≡ decimalOf n
+pub two-digits : (l : List ℕ) (n : ℕ) {x y : ℕ} → 2 ≤ length l → 10 ≤ n → n < 100 → x ≡ digitOf (n / 10) → y ≡ digitOf (n % 10)
+    → take 2 (set (set l 0 x) 1 y) ≡ decimalOf n
 unfolding decimalOf
-two-digits n g h = rw (le-ltb n 10 g, lt-ltb n 100 h)
+two-digits l n h g k e f = put-two l 0 _ _ h ∙ rw (le-ltb n 10 g, lt-ltb n 100 k, e, f)
 
-pub three-digits : (n : ℕ) → 100 ≤ n → (digitOf (n / 100) ∷ digitOf (n / 10 % 10) ∷ digitOf (n % 10) ∷ []) ≡ decimalOf n
+pub three-digits : (l : List ℕ) (n : ℕ) {x y z : ℕ} → 3 ≤ length l → 100 ≤ n
+    → x ≡ digitOf (n / 100) → y ≡ digitOf (n / 10 % 10) → z ≡ digitOf (n % 10)
+    → take 3 (set (set (set l 0 x) 1 y) 2 z) ≡ decimalOf n
 unfolding decimalOf
-three-digits n h = rw (le-ltb n 10 (omega arith), le-ltb n 100 h)
+three-digits l n {x} {y} h k e f g =
+    put-one (set (set l 0 x) 1 y) 2 _ (rw (length-set, length-set) h)
+    ∙ rw (put-two l 0 x y (omega arith), le-ltb n 10 (omega arith), le-ltb n 100 k, e, f, g)
 
 hex-last : (bytes : List ℕ) (b : ℕ) → hexOf (bytes ++ (b ∷ [])) ≡ hexOf bytes ++ (digitOf (b / 16) ∷ digitOf (b % 16) ∷ [])
 unfolding hexOf
 hex-last [] b = refl
 hex-last (x ∷ xs) b = ap (λ t. digitOf (x / 16) ∷ digitOf (x % 16) ∷ t) (hex-last xs b)
 
--- the digits of one byte more
-pub hex-step : (bytes : List ℕ) (i d : ℕ) → i < length bytes
-    → hexOf (take i bytes) ++ (digitOf (getD bytes i d / 16) ∷ digitOf (getD bytes i d % 16) ∷ []) ≡ hexOf (take (i + 1) bytes)
-hex-step bytes i d h = sym (rw (add-one, take-suc bytes i d h) (hex-last (take i bytes) (getD bytes i d)))
+-- the digits of one byte more written after a text
+pub put-hex : (text report l : List ℕ) (i at d : ℕ) {x y : ℕ} → take at l ≡ text ++ hexOf (take i report) → at + 1 < length l → i < length report
+    → x ≡ digitOf (getD report i d / 16) → y ≡ digitOf (getD report i d % 16)
+    → take (at + 2) (set (set l at x) (at + 1) y) ≡ text ++ hexOf (take (i + 1) report)
+put-hex text report l i at d {x} {y} p h k e f =
+    put-two l at x y h
+    ∙ ap (λ t. t ++ (x ∷ y ∷ [])) p ∙ append-assoc text (hexOf (take i report)) (x ∷ y ∷ [])
+    ∙ ap (λ t. text ++ t) (rw (e, f, add-one, take-suc report i d k) (sym (hex-last (take i report) (getD report i d))))

@@ -2,7 +2,8 @@
 ghost use mathlib.Core.Path.{_≡_};
 ghost use mathlib.Core.Bool.{cond};
 ghost use mathlib.Core.List.{_∷_, [], _++_};
-ghost use Prim.Native.Nat.{_+_, _<_, _≤_, _/_, _%_};
+ghost use Prim.Native.Nat.{_+_, _<_, _≤_};
+ghost use lib.ListN.{length, take};
 ghost use Rattle.rules.specs.Numbers.{isAnswered};
 ghost use Rattle.line.specs.Lines.{digitOf, decimalOf, hexOf, space, lineOf, textOf};
 use rules::Answer;
@@ -24,79 +25,65 @@ fn digit(x: u8) -> u8
     if x < 10 { x + 48 } else { x + 55 }
 }
 
-fn push(line: Line, byte: u8) -> Line
-    requires { ⌜ line .length < 33 ⌝ }
-    ensures { λ r. ⌜ textOf r ≡ textOf line ++ (byte ∷ []) ⌝ }
-    ensures { λ r. ⌜ r .length ≡ line .length + 1 ⌝ }
-{
-    let at = line.length;
-    let mut next = line;
-    next.bytes[at] = byte;
-    next.length = at + 1;
-    next
-}
-
-// Two hexadecimal digits.
-fn push_hex(line: Line, byte: u8) -> Line
-    requires { ⌜ line .length < 32 ⌝ }
-    ensures { λ r. ⌜ textOf r ≡ textOf line ++ (digitOf (byte / 16) ∷ digitOf (byte % 16) ∷ []) ⌝ }
-    ensures { λ r. ⌜ r .length ≡ line .length + 2 ⌝ }
-{
-    push(push(line, digit(byte / 16)), digit(byte % 16))
-}
-
-// A decimal number.
-fn push_number(line: Line, n: u8) -> Line
-    requires { ⌜ line .length < 31 ⌝ }
-    ensures { λ r. ⌜ textOf r ≡ textOf line ++ decimalOf n ⌝ }
-    ensures { λ r. ⌜ r .length ≤ line .length + 3 ⌝ }
+// Writes a decimal number at the front, and tells how many digits it has.
+fn put_number(bytes: &mut [u8], n: u8) -> usize
+    requires { ⌜ 3 ≤ length (now bytes) ⌝ }
+    ensures { λ r. ⌜ r ≤ 3 ⌝ }
+    ensures { λ r. ⌜ take r (now (bytes .exit)) ≡ decimalOf n ⌝ }
 {
     if n < 10 {
-        return push(line, digit(n));
+        bytes[0] = digit(n);
+        return 1;
     }
     if n < 100 {
-        return push(push(line, digit(n / 10)), digit(n % 10));
+        bytes[0] = digit(n / 10);
+        bytes[1] = digit(n % 10);
+        return 2;
     }
-    push(
-        push(push(line, digit(n / 100)), digit(n / 10 % 10)),
-        digit(n % 10),
-    )
+    bytes[0] = digit(n / 100);
+    bytes[1] = digit(n / 10 % 10);
+    bytes[2] = digit(n % 10);
+    3
 }
 
-// A space and a report.
-fn push_report(line: Line, report: [u8; REPORT_LENGTH]) -> Line
-    requires { ⌜ line .length ≤ 3 ⌝ }
-    ensures { λ r. ⌜ textOf r ≡ textOf line ++ (space ∷ hexOf report) ⌝ }
-    ensures { λ r. ⌜ r .length ≡ line .length + 29 ⌝ }
+// Writes a space and a report from a place on.
+fn put_report(bytes: &mut [u8], at: usize, report: [u8; REPORT_LENGTH])
+    requires { ⌜ at + 29 ≤ length (now bytes) ⌝ }
+    ensures { λ _. ⌜ take (at + 29) (now (bytes .exit)) ≡ take at (now (bytes .entry)) ++ (space ∷ hexOf report) ⌝ }
 {
-    let mut next = push(line, b' ');
+    bytes[at] = b' ';
+    let mut next = at + 1;
     for i in 0..REPORT_LENGTH {
         let byte = report[i];
-        next = push_hex(next, byte);
+        bytes[next] = digit(byte / 16);
+        bytes[next + 1] = digit(byte % 16);
+        next += 2;
     }
-    next
 }
 
-// The report, where the answer has one.
-fn push_answered(line: Line, answer: Answer, report: [u8; REPORT_LENGTH]) -> Line
-    requires { ⌜ line .length ≤ 3 ⌝ }
-    ensures { λ r. ⌜ textOf r ≡ textOf line ++ cond (isAnswered answer) (space ∷ hexOf report) [] ⌝ }
-    ensures { λ r. ⌜ r .length ≤ 32 ⌝ }
+// Writes the report, where the answer has one, and tells where the text ends.
+fn put_answered(bytes: &mut [u8], at: usize, answer: Answer, report: [u8; REPORT_LENGTH]) -> usize
+    requires { ⌜ (at ≤ 3) × (32 ≤ length (now bytes)) ⌝ }
+    ensures { λ r. ⌜ r ≤ 32 ⌝ }
+    ensures { λ r. ⌜ take r (now (bytes .exit)) ≡ take at (now (bytes .entry)) ++ cond (isAnswered answer) (space ∷ hexOf report) [] ⌝ }
 {
     if unit::is_answered(answer) {
-        return push_report(line, report);
+        put_report(bytes, at, report);
+        return at + 29;
     }
-    line
+    at
 }
 
 // The line of an answer; the report is read only where the answer has one.
 pub fn line_of(answer: Answer, report: [u8; REPORT_LENGTH]) -> Line
     ensures { λ r. ⌜ textOf r ≡ lineOf answer report ⌝ }
 {
-    let line = Line {
-        bytes: [0; WIDTH],
-        length: 0,
-    };
-    let numbered = push_number(line, unit::answer_number(answer));
-    push(push_answered(numbered, answer, report), b'\n')
+    let mut bytes = [0; WIDTH];
+    let number = put_number(&mut bytes, unit::answer_number(answer));
+    let end = put_answered(&mut bytes, number, answer, report);
+    bytes[end] = b'\n';
+    Line {
+        bytes,
+        length: end + 1,
+    }
 }

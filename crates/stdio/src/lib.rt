@@ -35,20 +35,20 @@ fn write(output: &[u8; SPACE], used: usize) {
     io::write_all(1, part(output, 0, used));
 }
 
-// Puts a line after what stands in the output, and tells how much stands there then.
+// Puts a line after what stands in the output, and tells how much stands there then. All bytes of the line are copied: what
+// stands past its length is overwritten by the next line, or not written.
 fn put(output: &mut [u8; SPACE], used: usize, line: Line) -> usize {
     let bytes = line.bytes;
     let length = line.length;
-    let mut at = used;
-    for i in 0..line::WIDTH {
-        if i < length {
-            if at < SPACE {
-                output[at] = bytes[i];
-                at += 1;
+    if used <= SPACE - line::WIDTH {
+        if length <= line::WIDTH {
+            for i in 0..line::WIDTH {
+                output[used + i] = bytes[i];
             }
+            return used + length;
         }
     }
-    at
+    used
 }
 
 // Makes room for a line: writes what stands in the output where there is none.

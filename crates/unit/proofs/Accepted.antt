@@ -6,7 +6,7 @@ use mathlib.Core.List.{List}
 use lib.ListN.{drop}
 use Rattle.wire.specs.declared.form.Form.{Form}
 use Rattle.wire.specs.Form.{formOf, operandPart, operandsOf}
-use Rattle.rules.specs.Numbers.{isAccepted, codeOf}
+use Rattle.rules.specs.Numbers.{isAccepted, isAnswered, codeOf}
 use Rattle.rules.specs.Operands.{codeByte}
 use Rattle.rules.specs.Commands.{carriedOut, remembered, acceptedOf}
 use Rattle.rules.specs.Refusals.{answerFor, answerOf}
@@ -30,6 +30,10 @@ operands-accepted : (stm : Stm) (command : List ℕ) (area : ℕ)
     → isAccepted (answerOf stm command area) ≡ true → operandsOf command area ≡ drop 5 command
 unfolding answerOf operandsOf
 operands-accepted stm command area e = part-accepted (formOf command area) stm command e
+
+-- an accepted command is answered
+pub accepted-answered : (answer : Answer) → isAccepted answer ≡ true → isAnswered answer ≡ true
+accepted-answered answer e = rw e
 
 abbrev outcome : Answer → Stm → Outcome
 outcome answer stm = record { answer = answer; stm = stm }

@@ -1,8 +1,6 @@
 // What an accepted command does.
 ghost use mathlib.Core.Path.{_≡_};
-ghost use mathlib.Core.Bool.{false};
-ghost use Rattle.rules.specs.declared.Code.{Code};
-ghost use Rattle.rules.specs.Numbers.{codeOf, isCode};
+ghost use Rattle.rules.specs.Numbers.{codeOf};
 ghost use Rattle.rules.specs.Operands.{codeByte, curveOf, sectionOf};
 ghost use Rattle.wire.specs.Numbers.{byteAt};
 ghost use Rattle.rules.specs.Places.{withCurves, withSections, givenCurve, endedCurve, givenSection, endedSection};
@@ -17,7 +15,6 @@ use encoding::fields::reading_of;
 use encoding::fields::section_of;
 use encoding::fields::train_of;
 use encoding::numbers::code_of;
-use encoding::numbers::is_code;
 use encoding::numbers::is_state;
 use encoding::numbers::state_of;
 use rules::Code;
@@ -93,36 +90,41 @@ fn stop(which: u8, stm: Stm) -> Stm
     next
 }
 
-// Every command but an odometer report, with its operands.
-fn carry_out(code: Code, s: &[u8], stm: Stm) -> Stm
-    requires { ⌜ isCode Code.Odometer code ≡ false ⌝ }
-    ensures { λ r. ⌜ r ≡ carriedOut code (now (s .entry)) stm ⌝ }
+// The unit after an accepted command, with its operands.
+pub fn accept(command: &[u8], s: &[u8], stm: Stm) -> Stm
+    ensures { λ r. ⌜ r ≡ remembered (now (command .entry)) (carriedOut (codeOf (codeByte (now (command .entry)))) (now (s .entry)) stm) ⌝ }
 {
     let mut next = stm;
     let track = stm.track;
     let brakes = stm.brakes;
-    match code {
-        Code::Start => next = fresh_with(true, train_of(s)),
-        Code::ChangeState => next = enter(state_of(byte_at(s, 0)), stm),
-        Code::Odometer => {}
-        Code::NewCurve => next.track = new_curve(s, track),
-        Code::EndCurve => next.track = curve_ended(s, track),
-        Code::NewSection => next.track = new_section(s, track),
-        Code::EndSection => next.track = section_ended(s, track),
-        Code::StopPassed => next = stop(byte_at(s, 0), stm),
-        Code::Proceed => next.track = with_forty(track, false),
-        Code::BaliseError => next.brakes = brakes_by(Code::BaliseError, 0, brakes),
+    match code_of(byte_at(command, 0)) {
+        Code::Start => remember(command, fresh_with(true, train_of(s))),
+        Code::ChangeState => remember(command, enter(state_of(byte_at(s, 0)), stm)),
+        Code::Odometer => take_reading(command, reading_of(s), stm),
+        Code::NewCurve => {
+            next.track = new_curve(s, track);
+            remember(command, next)
+        }
+        Code::EndCurve => {
+            next.track = curve_ended(s, track);
+            remember(command, next)
+        }
+        Code::NewSection => {
+            next.track = new_section(s, track);
+            remember(command, next)
+        }
+        Code::EndSection => {
+            next.track = section_ended(s, track);
+            remember(command, next)
+        }
+        Code::StopPassed => remember(command, stop(byte_at(s, 0), stm)),
+        Code::Proceed => {
+            next.track = with_forty(track, false);
+            remember(command, next)
+        }
+        Code::BaliseError => {
+            next.brakes = brakes_by(Code::BaliseError, 0, brakes);
+            remember(command, next)
+        }
     }
-    next
-}
-
-// The unit after an accepted command.
-pub fn accept(command: &[u8], s: &[u8], stm: Stm) -> Stm
-    ensures { λ r. ⌜ r ≡ remembered (now (command .entry)) (carriedOut (codeOf (codeByte (now (command .entry)))) (now (s .entry)) stm) ⌝ }
-{
-    let code = code_of(byte_at(command, 0));
-    if is_code(Code::Odometer, code) {
-        return take_reading(command, reading_of(s), stm);
-    }
-    remember(command, carry_out(code, s, stm))
 }

@@ -29,18 +29,6 @@ pub fn operands(command: &[u8], area: usize) -> &[u8]
     wire::operands(command, area)
 }
 
-// The answer and the next state.
-fn outcome_of(stm: Stm, command: &[u8], area: usize) -> Outcome
-    ensures { λ r. ⌜ r ≡ callOf stm (now (command .entry)) area ⌝ }
-{
-    let answer = refusals::answer_of(stm, command, area);
-    if is_accepted(answer) {
-        let next = commands::accept(command, operands(command, area), stm);
-        return Outcome { answer, stm: next };
-    }
-    Outcome { answer, stm }
-}
-
 // Writes a report into an area of its length, and nothing into any other.
 fn write(bytes: [u8; REPORT_LENGTH], report: &mut [u8])
     ensures { λ _. ⌜ now (report .exit) ≡ cond (eqb reportLength (length (now (report .entry)))) bytes (now (report .entry)) ⌝ }
@@ -56,13 +44,19 @@ pub fn call(stm: Stm, command: &[u8], report: &mut [u8]) -> Outcome
     ensures { λ r. ⌜ (isAccepted (r .answer) ≡ false → r .stm ≡ stm) ⌝ }
     ensures { λ r. ⌜ (isRefused (r .answer) ≡ true → now (report .exit) ≡ now (report .entry)) ⌝ }
 {
-    let outcome = outcome_of(stm, command, report.len());
-    let answer = outcome.answer;
-    if is_answered(answer) {
-        let next = outcome.stm;
+    let area = report.len();
+    let answer = refusals::answer_of(stm, command, area);
+    if is_accepted(answer) {
+        let next = commands::accept(command, operands(command, area), stm);
         let last = next.last;
         let bytes = last.report;
         write(bytes, report);
+        return Outcome { answer, stm: next };
     }
-    outcome
+    if is_answered(answer) {
+        let last = stm.last;
+        let bytes = last.report;
+        write(bytes, report);
+    }
+    Outcome { answer, stm }
 }

@@ -8,7 +8,9 @@ ghost use Rattle.rules.specs.Numbers.{isState};
 ghost use Rattle.rules.specs.Releases.{releasedBrakes};
 ghost use Rattle.rules.specs.Odometer.{moves, keptOf, measures, isFresh, supervised, reportedIn};
 ghost use Rattle.rules.specs.Commands.{remembered};
+use crate::report::order_outside;
 use crate::report::remember;
+use crate::report::report_outside;
 use crate::report::report_with;
 use brakes::check::is_drop;
 use brakes::release::added_brakes;
@@ -16,7 +18,6 @@ use brakes::release::noted_brakes;
 use brakes::release::released_brakes;
 use brakes::seeing::rolled_in;
 use brakes::seeing::seen_with;
-use encoding::numbers::is_state;
 use pressure::Measured;
 use refusals::padded;
 use rules::Brakes;
@@ -35,16 +36,6 @@ use track::whole::with_curves;
 
 // ---- moves and measures
 
-fn moved(r: Reading, stm: Stm) -> Stm
-    ensures { λ x. ⌜ x ≡ moves r stm ⌝ }
-{
-    let train = stm.train;
-    let track = stm.track;
-    let mut next = stm;
-    next.track = moved_track(train.length, r.moved, track);
-    next
-}
-
 fn kept_of(r: Reading) -> Kept
     ensures { λ x. ⌜ x ≡ keptOf r ⌝ }
 {
@@ -56,7 +47,8 @@ fn kept_of(r: Reading) -> Kept
     }
 }
 
-fn pressed(train: Train, before: Measured, r: Reading) -> Measured
+// The feedback after a report.
+fn fed(train: Train, before: Measured, r: Reading) -> Measured
     ensures { λ x. ⌜ x ≡ reported (before .phase) (train .feed) (train .pressure) (r .external) ⌝ }
 {
     let phase = before.phase;
@@ -64,15 +56,38 @@ fn pressed(train: Train, before: Measured, r: Reading) -> Measured
     pressure::report(phase, feed, train.pressure, r.external)
 }
 
-fn measured(r: Reading, stm: Stm) -> Stm
-    ensures { λ x. ⌜ x ≡ measures r stm ⌝ }
+// Outside DA: measures, and keeps the figures and buttons.
+fn measure(command: &[u8], r: Reading, stm: Stm) -> Stm
+    requires { ⌜ isState State.DA (stm .control .state) ≡ false ⌝ }
+    ensures { λ x. ⌜ x ≡ remembered (now (command .entry)) (measures r stm) ⌝ }
 {
-    let train = stm.train;
-    let feedback = stm.feedback;
     let mut next = stm;
-    next.feedback = pressed(train, feedback, r);
+    let control = stm.control;
+    let state = control.state;
+    let train = stm.train;
+    let brakes = stm.brakes;
+    let before = stm.feedback;
+    let feedback = fed(train, before, r);
+    next.feedback = feedback;
     next.kept = kept_of(r);
+    let last = Last {
+        bytes: padded(command),
+        report: report_outside(state, order_outside(state), brakes, feedback),
+    };
+    next.last = last;
     next
+}
+
+// The same in HS, where it moves first.
+fn move_and_measure(command: &[u8], r: Reading, stm: Stm) -> Stm
+    requires { ⌜ isState State.DA (stm .control .state) ≡ false ⌝ }
+    ensures { λ x. ⌜ x ≡ remembered (now (command .entry)) (measures r (moves r stm)) ⌝ }
+{
+    let mut next = stm;
+    let train = stm.train;
+    let track = stm.track;
+    next.track = moved_track(train.length, r.moved, track);
+    measure(command, r, next)
 }
 
 // ---- in DA
@@ -113,7 +128,7 @@ fn supervise(command: &[u8], r: Reading, stm: Stm) -> Stm
     let feedback = stm.feedback;
     let before = stm.kept;
     let moved = moved_track(train.length, r.moved, track);
-    let measured = pressed(train, feedback, r);
+    let measured = fed(train, feedback, r);
     let kept = kept_of(r);
     let curves = moved.curves;
     let judged = judge_now(train, kept, curves);
@@ -149,28 +164,17 @@ fn supervise(command: &[u8], r: Reading, stm: Stm) -> Stm
 
 // ---- by the state
 
-fn report_outside_da(r: Reading, stm: Stm) -> Stm
-    requires { ⌜ isState State.DA (stm .control .state) ≡ false ⌝ }
-    ensures { λ x. ⌜ x ≡ reportedIn (stm .control .state) r stm ⌝ }
-{
-    let control = stm.control;
-    let state = control.state;
-    match state {
-        State::DE => measured(r, stm),
-        State::CS => measured(r, stm),
-        State::HS => measured(r, moved(r, stm)),
-        State::DA => stm,
-        State::FA => stm,
-    }
-}
-
+// In FA no report is taken.
 pub fn take_reading(command: &[u8], r: Reading, stm: Stm) -> Stm
     ensures { λ x. ⌜ x ≡ remembered (now (command .entry)) (reportedIn (stm .control .state) r stm) ⌝ }
 {
     let control = stm.control;
     let state = control.state;
-    if is_state(State::DA, state) {
-        return supervise(command, r, stm);
+    match state {
+        State::DE => measure(command, r, stm),
+        State::CS => measure(command, r, stm),
+        State::HS => move_and_measure(command, r, stm),
+        State::DA => supervise(command, r, stm),
+        State::FA => remember(command, stm),
     }
-    remember(command, report_outside_da(r, stm))
 }

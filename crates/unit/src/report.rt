@@ -163,7 +163,7 @@ fn report_in_da(
 }
 
 // Outside DA.
-fn report_outside(
+pub fn report_outside(
     state: State,
     order: u8,
     brakes: Brakes,
@@ -190,7 +190,7 @@ fn report_outside(
 }
 
 // The order outside DA: emergency in FA, and none.
-fn order_outside(state: State) -> u8
+pub fn order_outside(state: State) -> u8
     ensures { λ r. ⌜ r ≡ cond (isState State.FA state) 3 0 ⌝ }
 {
     if is_state(State::FA, state) { 3 } else { 0 }

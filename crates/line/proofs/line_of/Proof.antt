@@ -1,33 +1,51 @@
 -- `line::line_of` meets its contract.
+use Prim.Native.Nat.{_<_}
+use lib.ListN.{length}
 use borrow.Author.Needs.{needs}
-use Rattle.line.specs.Lines.{lineOf}
+use Rattle.line.specs.Lines.{lineOf, lineFeed}
+use Rattle.line.proofs.Text.{put-one}
 use Rattle.line.proofs.line_of.Statement.{statement}
 use Rattle.line.proofs.line_of.Tie as tie
+
+slice-aggregate-put-number : tie.Need-slice-aggregate-put-number
+slice-aggregate-put-number c = search needs
 
 answer-number-requires : tie.Need-answer-number-requires
 answer-number-requires c κs = search needs
 
-push-number-requires : tie.Need-push-number-requires
-push-number-requires c κs = search needs
+put-number-requires : tie.Need-put-number-requires
+put-number-requires c κs = search needs
 
-push-answered-requires : tie.Need-push-answered-requires
-push-answered-requires c κs = search needs
+slice-aggregate-put-answered : tie.Need-slice-aggregate-put-answered
+slice-aggregate-put-answered c = search needs
 
-push-requires : tie.Need-push-requires
-push-requires c κs = search needs
+put-answered-requires : tie.Need-put-answered-requires
+put-answered-requires c κs = search needs
+
+array-write-bytes : tie.Need-array-write-bytes
+array-write-bytes c = search needs
+
+add-t14 : tie.Need-add-t14
+add-t14 c = search needs
 
 returns : tie.Need-returns
 unfolding lineOf
 returns c =
-    let o = c .before in
-    rw (c .push .ensures .0, o .push-answered .ensures .0, o .before .push-number .ensures .0, o .before .before .answer-number .ensures)
+    let end = c .before .put-answered in
+    let number = c .before .before .before .before in
+    let room : end .result < length (end .last .0) = search needs in
+    let last = put-one (end .last .0) (end .result) lineFeed room in
+    rw (last, end .ensures .1, number .put-number .ensures .1, number .before .answer-number .ensures)
 
 pub line-of-spec : {M : Type 1} → statement M
 line-of-spec =
     tie.close
     (tie.spec
+    slice-aggregate-put-number
     answer-number-requires
-    push-number-requires
-    push-answered-requires
-    push-requires
+    put-number-requires
+    slice-aggregate-put-answered
+    put-answered-requires
+    array-write-bytes
+    add-t14
     returns)

@@ -8,10 +8,13 @@ use Rattle.stdio.proofs.put.Statement.{statement}
 use Rattle.stdio.proofs.put.Tie as tie
 
 abbrev Inv-loop : tie.InvT-loop
-Inv-loop output₀ used bytes own at₀ i₀ output at i = (i ≤ 33) × (length bytes ≡ 33)
+Inv-loop output₀ used bytes own i₀ output i = (i ≤ 33) × (length bytes ≡ 33)
 
 abbrev μ-loop : tie.MeasureT-loop
-μ-loop output₀ used bytes own at₀ i₀ output at i = 33 - i
+μ-loop output₀ used bytes own i₀ output i = 33 - i
+
+sub-if1 : tie.Need-sub-if1 Inv-loop μ-loop
+sub-if1 c = search needs
 
 loop-holds : tie.Need-loop-holds Inv-loop μ-loop
 loop-holds c = (omega arith, search needs)
@@ -19,11 +22,11 @@ loop-holds c = (omega arith, search needs)
 array-read-output : tie.Need-array-read-output Inv-loop μ-loop
 array-read-output c = omega arith
 
-element-write-output : tie.Need-element-write-output Inv-loop μ-loop
-element-write-output c = search needs
+add-output : tie.Need-add-output Inv-loop μ-loop
+add-output c = omega arith
 
-add-at : tie.Need-add-at Inv-loop μ-loop
-add-at c = omega arith
+element-write-output : tie.Need-element-write-output Inv-loop μ-loop
+element-write-output c = omega arith
 
 add-i : tie.Need-add-i Inv-loop μ-loop
 add-i c = omega arith
@@ -34,8 +37,17 @@ loop-less c = omega arith
 loop-again : tie.Need-loop-again Inv-loop μ-loop
 loop-again c = (omega arith, search needs)
 
+add-result : tie.Need-add-result Inv-loop μ-loop
+add-result c = omega arith
+
 returns : tie.Need-returns Inv-loop μ-loop
 returns c = tt
+
+returns-2 : tie.Need-returns-2 Inv-loop μ-loop
+returns-2 c = tt
+
+returns-3 : tie.Need-returns-3 Inv-loop μ-loop
+returns-3 c = tt
 
 pub put-spec : {M : Type 1} → statement M
 put-spec =
@@ -43,11 +55,15 @@ put-spec =
     (tie.spec
     Inv-loop
     μ-loop
+    sub-if1
     loop-holds
     array-read-output
+    add-output
     element-write-output
-    add-at
     add-i
     loop-less
     loop-again
-    returns)
+    add-result
+    returns
+    returns-2
+    returns-3)

@@ -1,0 +1,116 @@
+-- `line::put_report` meets its contract.
+use Prim.Native.Nat.{_≤_, _+_, _*_, _-_}
+use mathlib.Core.Path.{_≡_, refl, sym}
+use mathlib.Core.List.{_++_, append-nil, append-assoc}
+use native.Mathlib.Omega.{arith}
+use mir.Syntax.{w8}
+use mir.Val.{Fits}
+use denote.Ref.{now}
+use lib.ListN.{length, length-set, take, set, getD}
+use lib.Seq.{take-all}
+use borrow.Author.Needs.{needs}
+use Rattle.line.specs.Lines.{hexOf, space}
+use Rattle.line.proofs.Text.{put-one, put-hex}
+use Rattle.line.proofs.put_report.Statement.{statement}
+use Rattle.line.proofs.put_report.Tie as tie
+
+abbrev Inv-loop : tie.InvT-loop
+Inv-loop bytes₀ at report next₀ i₀ bytes next i =
+    (i ≤ 14)
+    × (length report ≡ 14)
+    × (next ≡ next₀ + 2 * i)
+    × (length bytes ≡ length bytes₀)
+    × (next₀ + 28 ≤ length bytes₀)
+    × (take next bytes ≡ take next₀ bytes₀ ++ hexOf (take i report))
+
+abbrev μ-loop : tie.MeasureT-loop
+μ-loop bytes₀ at report next₀ i₀ bytes next i = 14 - i
+
+slice-write-bytes : tie.Need-slice-write-bytes Inv-loop μ-loop
+slice-write-bytes c = omega arith
+
+add-next : tie.Need-add-next Inv-loop μ-loop
+add-next c = omega arith
+
+loop-holds : tie.Need-loop-holds Inv-loop μ-loop
+unfolding hexOf
+loop-holds c = (omega arith, search needs, omega arith, refl, simp length-set (omega arith), sym (append-nil _))
+
+array-read-byte : tie.Need-array-read-byte Inv-loop μ-loop
+array-read-byte c = omega arith
+
+digit-requires : tie.Need-digit-requires Inv-loop μ-loop
+digit-requires c κs =
+    let o = c .before in
+    let byte : Fits w8 (getD (o .before .before .args .t3) (o .loop .i) 0) = search needs in
+    omega (arith, byte .fits)
+
+slice-write-bytes-2 : tie.Need-slice-write-bytes-2 Inv-loop μ-loop
+slice-write-bytes-2 c = omega arith
+
+digit-requires-2 : tie.Need-digit-requires-2 Inv-loop μ-loop
+digit-requires-2 c κs = search needs
+
+add-bytes : tie.Need-add-bytes Inv-loop μ-loop
+add-bytes c = omega arith
+
+slice-write-bytes-3 : tie.Need-slice-write-bytes-3 Inv-loop μ-loop
+slice-write-bytes-3 c = simp length-set (omega arith)
+
+add-next-2 : tie.Need-add-next-2 Inv-loop μ-loop
+add-next-2 c = omega arith
+
+add-i : tie.Need-add-i Inv-loop μ-loop
+add-i c = omega arith
+
+loop-less : tie.Need-loop-less Inv-loop μ-loop
+loop-less c = omega arith
+
+loop-again : tie.Need-loop-again Inv-loop μ-loop
+loop-again c =
+    let o = c .before .before .before in
+    let v = o .loop .inv in
+    let a = o .before .before .args in
+    let text = take (a .at + 1) (set (now (a .bytes)) (a .at) space) in (
+      omega arith,
+      v .1,
+      omega arith,
+      simp (length-set, v .3),
+      v .4,
+      put-hex text (a .t3) (o .loop .bytes) (o .loop .i) (o .loop .next) 0 (v .5) (omega arith) (omega arith) (c .before .digit .ensures) (c .digit2 .ensures),
+    )
+
+same-length : tie.Need-same-length Inv-loop μ-loop
+same-length c = simp (c .before .loop .inv .3, length-set)
+
+returns : tie.Need-returns Inv-loop μ-loop
+returns c =
+    let o = c .before in
+    let v = o .loop .inv in
+    let a = o .before .before .args in
+    let end : a .at + 29 ≡ o .loop .next = omega arith in
+    let all = take-all (o .loop .i) (a .t3) (omega arith) in
+    let start = put-one (now (a .bytes)) (a .at) space (omega arith) in
+    rw (end, v .5, all, start, append-assoc)
+
+pub put-report-spec : {M : Type 1} → statement M
+put-report-spec =
+    tie.close
+    (tie.spec
+    Inv-loop
+    μ-loop
+    slice-write-bytes
+    add-next
+    loop-holds
+    array-read-byte
+    digit-requires
+    slice-write-bytes-2
+    digit-requires-2
+    add-bytes
+    slice-write-bytes-3
+    add-next-2
+    add-i
+    loop-less
+    loop-again
+    same-length
+    returns)
