@@ -1,7 +1,7 @@
 // What the table of causes looks at.
 ghost use mathlib.Core.Path.{_≡_};
 ghost use Rattle.rules.specs.Releases.{isRolled};
-ghost use Rattle.rules.specs.Odometer.{isInsufficient, seenWith, seenIn};
+ghost use Rattle.rules.specs.Odometer.{isInsufficient, seenWith};
 use crate::release::is_rolled;
 use curve::Interval;
 use curve::Judged;

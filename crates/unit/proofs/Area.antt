@@ -6,6 +6,7 @@ use mathlib.Core.List.{List}
 use lib.Dec.{eqb}
 use lib.ListN.{length}
 use borrow.Author.Tests.{eqb-true, eq-eqb, not-true}
+use Rattle.wire.specs.Bytes.{copied}
 use Rattle.wire.specs.declared.form.Form.{Form}
 use Rattle.wire.specs.Form.{reportLength, formOf}
 use Rattle.rules.specs.Numbers.{isAccepted, isAnswered, isRefused}
@@ -14,6 +15,12 @@ use Rattle.rules.specs.Calls.{callOf, areaOf}
 use Rattle.rules.specs.declared.Stm.{Stm}
 use Rattle.rules.specs.declared.Outcome.{Outcome}
 use Rattle.rules.proofs.Tests.{impossible}
+
+-- a report copied into an area
+pub written : (bytes entry : List ℕ) {exit : List ℕ} → length bytes ≡ reportLength → exit ≡ copied bytes entry
+    → exit ≡ cond (eqb reportLength (length entry)) bytes entry
+unfolding copied
+written bytes entry size e = rw size at e
 
 -- an answered call has an area of the report's length
 fits-form : (t : Bool) (form : Form) (stm : Stm) (command : List ℕ)

@@ -54,8 +54,8 @@ pub fn call(stm: Stm, command: &[u8], report: &mut [u8]) -> Outcome
         return Outcome { answer, stm: next };
     }
     if is_answered(answer) {
-        let last = stm.last;
-        let bytes = last.report;
+        let before = stm.last;
+        let bytes = before.report;
         write(bytes, report);
     }
     Outcome { answer, stm }

@@ -1,9 +1,6 @@
 -- `unit::write` meets its contract.
-use mathlib.Core.Path.{_≡_}
 use native.Mathlib.Omega.{arith}
-use lib.ListN.{length}
-use Rattle.wire.specs.Bytes.{copied}
-use Rattle.wire.specs.Form.{reportLength}
+use Rattle.unit.proofs.Area.{written}
 use borrow.Author.Needs.{needs}
 use Rattle.unit.proofs.write.Statement.{statement}
 use Rattle.unit.proofs.write.Tie as tie
@@ -18,11 +15,7 @@ same-length : tie.Need-same-length
 same-length c = search needs
 
 returns : tie.Need-returns
-unfolding copied
-returns c =
-    let start = c .before .before .before .before .before .before in
-    let size : length (start .args .t1) ≡ reportLength = omega arith in
-    rw size at (c .before .before .copy-whole .ensures)
+returns c = written _ _ (omega arith) (c .before .before .copy-whole .ensures)
 
 pub write-spec : {M : Type 1} → statement M
 write-spec =
