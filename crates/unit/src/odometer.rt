@@ -8,7 +8,6 @@ ghost use Rattle.rules.specs.Numbers.{isState};
 ghost use Rattle.rules.specs.Releases.{releasedBrakes};
 ghost use Rattle.rules.specs.Odometer.{moves, keptOf, measures, isFresh, supervised, reportedIn};
 ghost use Rattle.rules.specs.Commands.{remembered};
-use crate::report::order_outside;
 use crate::report::remember;
 use crate::report::report_outside;
 use crate::report::report_with;
@@ -48,7 +47,7 @@ fn kept_of(r: Reading) -> Kept
 }
 
 // The feedback after a report.
-fn fed(train: Train, before: Measured, r: Reading) -> Measured
+fn feedback_after(train: Train, before: Measured, r: Reading) -> Measured
     ensures { λ x. ⌜ x ≡ reported (before .phase) (train .feed) (train .pressure) (r .external) ⌝ }
 {
     let phase = before.phase;
@@ -67,12 +66,12 @@ fn measure(command: &[u8], r: Reading, stm: Stm) -> Stm
     let train = stm.train;
     let brakes = stm.brakes;
     let before = stm.feedback;
-    let feedback = fed(train, before, r);
+    let feedback = feedback_after(train, before, r);
     next.feedback = feedback;
     next.kept = kept_of(r);
     let last = Last {
         bytes: padded(command),
-        report: report_outside(state, order_outside(state), brakes, feedback),
+        report: report_outside(state, brakes, feedback),
     };
     next.last = last;
     next
@@ -128,7 +127,7 @@ fn supervise(command: &[u8], r: Reading, stm: Stm) -> Stm
     let feedback = stm.feedback;
     let before = stm.kept;
     let moved = moved_track(train.length, r.moved, track);
-    let measured = fed(train, feedback, r);
+    let measured = feedback_after(train, feedback, r);
     let kept = kept_of(r);
     let curves = moved.curves;
     let judged = judge_now(train, kept, curves);
@@ -164,7 +163,7 @@ fn supervise(command: &[u8], r: Reading, stm: Stm) -> Stm
 
 // ---- by the state
 
-// In FA no report is taken.
+// In FA no report is taken (refusal 8): its arm leaves the state as the definition does.
 pub fn take_reading(command: &[u8], r: Reading, stm: Stm) -> Stm
     ensures { λ x. ⌜ x ≡ remembered (now (command .entry)) (reportedIn (stm .control .state) r stm) ⌝ }
 {

@@ -162,18 +162,20 @@ fn report_in_da(
     ]
 }
 
+// The order outside DA: emergency in FA, and none.
+fn order_outside(state: State) -> u8
+    ensures { λ r. ⌜ r ≡ cond (isState State.FA state) 3 0 ⌝ }
+{
+    if is_state(State::FA, state) { 3 } else { 0 }
+}
+
 // Outside DA.
-pub fn report_outside(
-    state: State,
-    order: u8,
-    brakes: Brakes,
-    feedback: Measured,
-) -> [u8; REPORT_LENGTH]
-    ensures { λ r. ⌜ r ≡ fields (stateNumber state) order 0 0 0 (255 ∷ 0 ∷ 0 ∷ 0 ∷ []) (messagesOf brakes feedback) 0 ⌝ }
+pub fn report_outside(state: State, brakes: Brakes, feedback: Measured) -> [u8; REPORT_LENGTH]
+    ensures { λ r. ⌜ r ≡ fields (stateNumber state) (cond (isState State.FA state) 3 0) 0 0 0 (255 ∷ 0 ∷ 0 ∷ 0 ∷ []) (messagesOf brakes feedback) 0 ⌝ }
 {
     [
         state_number(state),
-        order,
+        order_outside(state),
         0,
         0,
         0,
@@ -187,13 +189,6 @@ pub fn report_outside(
         messages_of(brakes, feedback),
         0,
     ]
-}
-
-// The order outside DA: emergency in FA, and none.
-pub fn order_outside(state: State) -> u8
-    ensures { λ r. ⌜ r ≡ cond (isState State.FA state) 3 0 ⌝ }
-{
-    if is_state(State::FA, state) { 3 } else { 0 }
 }
 
 // In DA, with all that is looked at judged here.
@@ -225,7 +220,7 @@ fn report_of(stm: Stm) -> [u8; REPORT_LENGTH]
     }
     let brakes = stm.brakes;
     let feedback = stm.feedback;
-    report_outside(state, order_outside(state), brakes, feedback)
+    report_outside(state, brakes, feedback)
 }
 
 // The report of a state of which it is known already what its curves say, its VMAX and what is seen.

@@ -8,8 +8,8 @@ use Rattle.unit.proofs.odometer.supervise.Tie as tie
 moved-track-requires : tie.Need-moved-track-requires
 moved-track-requires c κs = tt
 
-fed-requires : tie.Need-fed-requires
-fed-requires c κs = tt
+feedback-after-requires : tie.Need-feedback-after-requires
+feedback-after-requires c κs = tt
 
 kept-of-requires : tie.Need-kept-of-requires
 kept-of-requires c κs = tt
@@ -80,7 +80,7 @@ steps c =
     let at-moved = at-measured .before in
     record {
       moved = at-moved .moved-track .result;
-      measured = at-measured .fed .result;
+      measured = at-measured .feedback-after .result;
       kept = at-kept .kept-of .result;
       judged = at-judged .judge-now .result;
       vmax = at-vmax .vmax-of .result;
@@ -95,7 +95,7 @@ steps c =
       curves = at-curves .note-all .result;
       track = c .with-curves .result;
       moved-is = at-moved .moved-track .ensures;
-      measured-is = at-measured .fed .ensures;
+      measured-is = at-measured .feedback-after .ensures;
       kept-is = at-kept .kept-of .ensures;
       judged-is = at-judged .judge-now .ensures;
       vmax-is = at-vmax .vmax-of .ensures;
@@ -127,7 +127,7 @@ supervise-spec =
     tie.close
     (tie.spec
     moved-track-requires
-    fed-requires
+    feedback-after-requires
     kept-of-requires
     judge-now-requires
     vmax-of-requires

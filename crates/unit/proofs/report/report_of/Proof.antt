@@ -15,19 +15,15 @@ returns c =
     let o = c .before .before in
     c .report-now .ensures ∙ sym (report-inside (o .before .before .args .stm) (sym (o .is-state .ensures) ∙ c .before .if1 .taken))
 
-order-outside-requires : tie.Need-order-outside-requires
-order-outside-requires c κs = tt
-
 report-outside-requires : tie.Need-report-outside-requires
 report-outside-requires c κs = tt
 
 returns-2 : tie.Need-returns-2
 returns-2 c =
-    let o = c .before .before .before .before in
+    let o = c .before .before .before in
     let stm = o .before .before .before .args .stm in
     rw (
       c .report-outside .ensures,
-      c .before .order-outside .ensures,
       report-elsewhere stm (sym (o .before .is-state .ensures) ∙ o .if1 .left),
     )
 
@@ -38,6 +34,5 @@ report-of-spec =
     is-state-requires
     report-now-requires
     returns
-    order-outside-requires
     report-outside-requires
     returns-2)

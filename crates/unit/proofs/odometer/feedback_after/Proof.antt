@@ -1,10 +1,10 @@
--- `unit::odometer::fed` meets its contract.
+-- `unit::odometer::feedback_after` meets its contract.
 use mathlib.Core.Path.{ap, _∙_}
 use mir.Syntax.{w16}
 use mir.ValLaws.{toZ-ofZ}
 use Rattle.pressure.specs.Report.{reported}
-use Rattle.unit.proofs.odometer.fed.Statement.{statement}
-use Rattle.unit.proofs.odometer.fed.Tie as tie
+use Rattle.unit.proofs.odometer.feedback_after.Statement.{statement}
+use Rattle.unit.proofs.odometer.feedback_after.Tie as tie
 
 report-requires : tie.Need-report-requires
 report-requires c κs = tt
@@ -15,5 +15,5 @@ returns c =
     ∙ ap (reported _ _ _)
     (toZ-ofZ w16 (c .before .before .args .r .external) (record { sfits = c .before .struct-told .given .1 .1 .1 .0 .1 }))
 
-pub fed-spec : {M : Type 1} → statement M
-fed-spec = tie.close (tie.spec report-requires returns)
+pub feedback-after-spec : {M : Type 1} → statement M
+feedback-after-spec = tie.close (tie.spec report-requires returns)
