@@ -14,7 +14,8 @@ use Rattle.rules.specs.Releases.{freshBrakes, sinceAt, notedBrakes, serv
 use Rattle.rules.specs.Odometer.{withState, withBrakes, seenWith, seenOf, seenIn, moves, measures, notes, adds, releases, isFresh, supervised, reportedIn}
 use Rattle.rules.specs.Commands.{freshWith, entered, stopped, carriedOut, remembered, acceptedOf}
 use Rattle.rules.specs.Runs.{Sent, answerTo, stateAfter, isOf, ordersCS, freshens}
-use Rattle.rules.specs.Braking.{readingIn, isSupervised, measuredAt, seenAt, orderedNow, releasableNow, freshlyPressed, OrderedAndReleased, OrderedInFailure, OthersDropNothing, OthersOrderFiveToNine, FreshHasNoCause}
+use Rattle.rules.specs.Braking.{readingIn, measuredAt, seenAt, orderedNow, releasableNow, freshlyPressed, OrderedAndReleased, OrderedInFailure, OthersDropNothing, OthersOrderFiveToNine, FreshHasNoCause}
+use Rattle.rules.specs.History.{isSupervised}
 use Rattle.rules.specs.declared.Code.{Code}
 use Rattle.rules.specs.declared.State.{State}
 use Rattle.rules.specs.declared.Cause.{Cause}

@@ -11,7 +11,8 @@ use Rattle.rules.specs.Table.{stands, orderedBy, isStop, isReleasable, r
 use Rattle.rules.specs.Releases.{isHalt, sinceAt, sinceBy, brakesBy}
 use Rattle.rules.specs.Commands.{stopped}
 use Rattle.rules.specs.Runs.{Sent, answerTo, stateAfter, stateAtEnd, noneAccepted, isOf, freshens}
-use Rattle.rules.specs.Braking.{readingIn, isSupervised, seenAt, releasableNow, freshlyPressed, pressesFor, halts, NoneDroppedWithoutPress, StopNotesAfresh, StopWantsHalt, LandslideWantsHalt}
+use Rattle.rules.specs.Braking.{readingIn, seenAt, releasableNow, freshlyPressed, pressesFor, halts, NoneDroppedWithoutPress, StopNotesAfresh, StopWantsHalt, LandslideWantsHalt}
+use Rattle.rules.specs.History.{isSupervised}
 use Rattle.rules.specs.declared.Code.{Code}
 use Rattle.rules.specs.declared.State.{State}
 use Rattle.rules.specs.declared.Cause.{Cause}

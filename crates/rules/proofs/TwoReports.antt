@@ -5,7 +5,7 @@ use mathlib.Core.List.{List, _∷_}
 use native.Mathlib.Nat.{le-refl}
 use Rattle.wire.proofs.Values.{bytes-read}
 use Rattle.rules.specs.Reports.{two, reportWith, reportInDA, reportOutside, reportFor, reportOf}
-use Rattle.rules.specs.TwoRuns.{permittedIn, orderIn}
+use Rattle.rules.specs.History.{permittedIn, orderIn}
 use Rattle.rules.specs.declared.State.{State}
 use Rattle.rules.specs.declared.Stm.{Stm}
 use Rattle.rules.proofs.TwoSpeeds.{permitted-no-higher}

@@ -4,8 +4,10 @@ use mathlib.Core.Path.{_≡_, refl, sym, _∙_, ap}
 use mathlib.Core.Bool.{Bool, true, false, false≢true, _||_}
 use mathlib.Core.List.{List, [], _∷_}
 use native.Mathlib.Nat.{le-refl}
+use Rattle.curve.specs.Deceleration.{levelOf}
 use Rattle.rules.specs.Numbers.{codeOf, isCode, isAccepted, isRefused}
 use Rattle.rules.specs.Operands.{codeByte, numberOf, operandsOf, readingOf}
+use Rattle.rules.specs.Speeds.{brakingOf}
 use Rattle.rules.specs.Table.{stands}
 use Rattle.rules.specs.Odometer.{reportedIn}
 use Rattle.rules.specs.Commands.{carriedOut, withLast, remembered, acceptedOf}
@@ -182,6 +184,7 @@ unfolding areaOf
 area-is stm x e = area-answered (answerTo stm x) (stateAfter stm x .last .report) (x .area) e
 
 claimed : (u w : Stm) (x y : Sent) → RunsBelow (stateAfter u x) (stateAfter w y) → Claimed (momentOf u x) (momentOf w y)
+unfolding brakingOf levelOf
 claimed u w x y runs h h′ = record {
   permitted = rw (area-is u x h, area-is w y h′) (runs .report .permitted);
   interval = λ curve curve′ holds holds′ same.

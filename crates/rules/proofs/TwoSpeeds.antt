@@ -21,7 +21,8 @@ use Rattle.curve.proofs.Stricter.{interval-is-not-earlier, still-brakes}
 use Rattle.curve.proofs.Halving.{permitted-is-not-higher}
 use Rattle.rules.specs.Places.{anyOf}
 use Rattle.rules.specs.Speeds.{brakingOf, judgedNow, sectionSpeed, stopSpeed, vmaxOf, permittedSpeed}
-use Rattle.rules.specs.TwoRuns.{Holds, HoldsSection, TrainsCompared}
+use Rattle.rules.specs.TwoRuns.{TrainsCompared}
+use Rattle.rules.specs.History.{Holds, HoldsSection}
 use Rattle.rules.specs.declared.Train.{Train}
 use Rattle.rules.specs.declared.Section.{Section}
 use Rattle.rules.specs.declared.Track.{Track}

@@ -14,7 +14,8 @@ use Rattle.curve.specs.Claims.{Stricter}
 use Rattle.rules.specs.Places.{isCurve, holdsCurve, movedSection, movedTrack}
 use Rattle.rules.specs.Speeds.{brakingOf, judgedNow}
 use Rattle.rules.specs.Odometer.{notedTrack}
-use Rattle.rules.specs.TwoRuns.{Holds, HoldsSection, TracksCompared}
+use Rattle.rules.specs.TwoRuns.{TracksCompared}
+use Rattle.rules.specs.History.{Holds, HoldsSection}
 use Rattle.rules.specs.declared.Train.{Train}
 use Rattle.rules.specs.declared.Section.{Section}
 use Rattle.rules.specs.declared.Track.{Track}

@@ -12,6 +12,7 @@ use Rattle.rules.specs.Checks.{isDrop}
 use Rattle.rules.specs.Releases.{serviceFails}
 use Rattle.rules.specs.Odometer.{seenIn, moves, measures, notes}
 use Rattle.rules.specs.Runs.{Sent, answerTo, stateAfter, stateAtEnd, noneAccepted, isOf, freshens}
+use Rattle.rules.specs.History.{isSupervised}
 use Rattle.rules.specs.declared.Code.{Code}
 use Rattle.rules.specs.declared.State.{State}
 use Rattle.rules.specs.declared.Cause.{Cause}
@@ -22,10 +23,6 @@ use Rattle.rules.specs.declared.Seen.{Seen}
 -- the operands of an odometer report
 abbrev pub readingIn : List ℕ → Reading
 readingIn command = readingOf (operandsOf command)
-
--- an odometer report that finds the unit in DA
-abbrev pub isSupervised : Stm → List ℕ → Bool
-isSupervised stm command = isOf Code.Odometer command && isState State.DA (stm .control .state)
 
 -- ---- the columns of the table, at such a report
 

@@ -4,16 +4,15 @@ use Prim.Native.Nat.{ℕ, zero, suc}
 use mathlib.Core.Bool.{Bool, true, cond, _&&_}
 use mathlib.Core.List.{List, [], _∷_, _++_, map, foldr}
 use lib.Dec.{eqb}
-use lib.ListN.{drop, replicate}
+use lib.ListN.{replicate}
 use Rattle.wire.specs.Form.{reportLength}
-use Rattle.wire.specs.Numbers.{byteAt, number}
 use Rattle.pressure.specs.Figures.{pressureFigures}
 use Rattle.curve.specs.Figures.{curveFigures}
 use Rattle.rules.specs.Numbers.{answerNumber, codeNumber, stateNumber, isRefused}
 use Rattle.rules.specs.Reports.{two}
 use Rattle.rules.specs.Commands.{freshStm}
 use Rattle.rules.specs.Runs.{Sent, Moment, momentOf, moments, stateAtEnd}
-use Rattle.rules.specs.TwoRuns.{orderIn}
+use Rattle.rules.specs.History.{orderIn, causesIn, offeredIn}
 use Rattle.rules.specs.declared.Code.{Code}
 use Rattle.rules.specs.declared.State.{State}
 use Rattle.rules.specs.declared.Stm.{Stm}
@@ -59,13 +58,6 @@ unitAt100 = stateAtEnd freshStm (intoDA (startOf 100 700 30 13) [])
 -- what it writes at a command that follows others
 unfoldable pub writtenAfter : List Sent → Sent → List ℕ
 writtenAfter before x = momentOf (stateAtEnd unitAt100 before) x .area
-
--- "causes 2" and "release offered" in a report
-abbrev pub causesIn : List ℕ → ℕ
-causesIn report = number 2 (drop 2 report)
-
-abbrev pub offeredIn : List ℕ → ℕ
-offeredIn report = byteAt report 13
 
 -- its report at a speed, with no cause before it and with bit 0
 abbrev atSpeed : ℕ → List ℕ

@@ -2,19 +2,18 @@
 use mathlib.Core.Path.{_≡_}
 use Prim.Native.Nat.{ℕ, _≤_}
 use mathlib.Core.Bool.{Bool, true, false, _||_}
-use mathlib.Core.List.{List, [], _∷_, map, List·Memᴰ}
+use mathlib.Core.List.{List, [], _∷_, map}
 use lib.ListN.{length, take, drop}
-use Rattle.wire.specs.Numbers.{byteAt, number}
+use Rattle.wire.specs.Numbers.{byteAt}
 use Rattle.curve.specs.declared.Curve.{Curve}
-use Rattle.curve.specs.declared.Interval.{Interval}
-use Rattle.curve.specs.Intervals.{intervalOf, rankOf}
+use Rattle.curve.specs.Intervals.{rankOf}
 use Rattle.curve.specs.Claims.{Stricter}
 use Rattle.rules.specs.Numbers.{isRefused}
 use Rattle.rules.specs.Operands.{codeByte, numberOf, operandsOf, twoAt, bitOf}
 use Rattle.rules.specs.Places.{holdsCurve}
-use Rattle.rules.specs.Speeds.{brakingOf}
 use Rattle.rules.specs.Table.{stands}
 use Rattle.rules.specs.Runs.{Sent, Moment, moments, isOf}
+use Rattle.rules.specs.History.{permittedIn, orderIn, Holds, HoldsSection, intervalIn}
 use Rattle.rules.specs.Units.{IsUnit}
 use Rattle.rules.specs.declared.Code.{Code}
 use Rattle.rules.specs.declared.Cause.{Cause}
@@ -41,15 +40,6 @@ pub record TrainsCompared (train train′ : Train) : Type 0 where
   pub pressure : train′ .pressure ≡ train .pressure
   pub check : train′ .check ≡ train .check
 
--- a place of the list holds this curve, or this section
-pub record Holds (curves : List Curve) (curve : Curve) : Type 0 where
-  pub place : List·Memᴰ curve curves
-  pub held : curve .held ≡ true
-
-pub record HoldsSection (sections : List Section) (section : Section) : Type 0 where
-  pub place : List·Memᴰ section sections
-  pub held : section .held ≡ true
-
 -- "By id, any of the second's curves may have a lower d, target or release speed"; "one section id may be new"; all else is equal.
 -- A place does not matter. The second may hold more: the proof does not need that it holds no other curve, or one section more only
 pub record TracksCompared (track track′ : Track) : Type 0 where
@@ -62,13 +52,6 @@ pub record TracksCompared (track track′ : Track) : Type 0 where
       → curve′ .past ≡ curve .past
   pub sections : (section : Section) → HoldsSection (track .sections) section → HoldsSection (track′ .sections) section
   pub forty : track′ .forty ≡ track .forty
-
--- the permitted speed and the order written into a report
-abbrev pub permittedIn : List ℕ → ℕ
-permittedIn report = number 2 (drop 4 report)
-
-abbrev pub orderIn : List ℕ → ℕ
-orderIn report = byteAt report 1
 
 -- "save the last command's operands and the kept report, in which the second permits no more and orders no less"
 pub record LastsCompared (last last′ : Last) : Type 0 where
@@ -134,10 +117,6 @@ Presumed true P = P
 Presumed false P = Unit {0}
 
 -- ---- what is claimed
-
--- a curve's computed interval, at the last figures
-abbrev pub intervalIn : Stm → Curve → Interval
-intervalIn stm curve = intervalOf curve (brakingOf (stm .train) (stm .kept .halka)) (stm .kept .speed)
 
 -- "the second's permitted speed is no higher, no curve held by both is in an earlier computed interval, and its brake order is no
 -- milder"; "Permitted speed and order are those written"

@@ -1,0 +1,88 @@
+-- What a start and entering a state leave (01, "Answers", last paragraph). Proved in proofs/.
+use mathlib.Core.Path.{_≡_}
+use Prim.Native.Nat.{ℕ}
+use mathlib.Core.Bool.{true, false, _&&_, _||_}
+use mathlib.Core.List.{List}
+use lib.Dec.{eqb}
+use Rattle.pressure.specs.Convert.{kPa}
+use Rattle.pressure.specs.declared.Phase.{Phase}
+use Rattle.rules.specs.Numbers.{isAccepted}
+use Rattle.rules.specs.Operands.{operandsOf, trainOf}
+use Rattle.rules.specs.Table.{stands}
+use Rattle.rules.specs.Runs.{Sent, answerTo, stateAfter, isOf}
+use Rattle.rules.specs.History.{firstOperand, isIn, isSupervised, curveAt, sectionAt}
+use Rattle.rules.specs.declared.Code.{Code}
+use Rattle.rules.specs.declared.State.{State}
+use Rattle.rules.specs.declared.Cause.{Cause}
+use Rattle.rules.specs.declared.Check.{Check}
+use Rattle.rules.specs.declared.Roll.{Roll}
+use Rattle.rules.specs.declared.Brakes.{Brakes}
+use Rattle.rules.specs.declared.Stm.{Stm}
+
+-- no curve, no section, no 40; no cause, nothing noted, no check begun, nothing rolled, no brake fault
+pub record HoldsNothing (stm : Stm) : Type 0 where
+  pub curves : (place : ℕ) → curveAt place stm .held ≡ false
+  pub sections : (place : ℕ) → sectionAt place stm .held ≡ false
+  pub forty : stm .track .forty ≡ false
+  pub causes : (cause : Cause) → stands (stm .brakes .causes) cause ≡ false
+  pub aimed : stm .brakes .since .aimed ≡ false
+  pub unexpected : stm .brakes .since .unexpected ≡ false
+  pub landslide : stm .brakes .since .landslide ≡ false
+  pub service : stm .brakes .service ≡ Check.Idle
+  pub emergency : stm .brakes .emergency ≡ Check.Idle
+  pub roll : stm .brakes .roll ≡ Roll.Ended
+  pub drift : stm .brakes .drift ≡ false
+  pub failed : stm .brakes .failed ≡ false
+
+-- "Start makes everything fresh, in DE", "A button counts as already pressed before the first report"
+pub record IsFresh (stm : Stm) : Type 0 where
+  pub state : isIn State.DE stm ≡ true
+  pub nothing : HoldsNothing stm
+  pub phase : stm .feedback .phase ≡ Phase.Waiting
+  pub pressure : stm .feedback .pressures .pressure ≡ kPa 0
+  pub reference : stm .feedback .pressures .reference ≡ kPa 0
+  pub fault : stm .feedback .fault ≡ false
+  pub speed : stm .kept .speed ≡ 0
+  pub loss : stm .kept .loss ≡ true
+  pub text : stm .kept .text ≡ true
+
+abbrev pub StartIsFresh : Type 0
+StartIsFresh =
+    (stm : Stm) (x : Sent)
+    → isAccepted (answerTo stm x) ≡ true → isOf Code.Start (x .command) ≡ true
+    → IsFresh (stateAfter stm x)
+    × (stateAfter stm x .control .started ≡ true)
+    × (stateAfter stm x .train ≡ trainOf (operandsOf (x .command)))
+
+-- "Entering CS drops curves, sections, causes, their counters and the 40 of an unexpected stop, but nothing of the feedback"; entering
+-- another state leaves them all
+abbrev pub EnteringCS : Type 0
+EnteringCS =
+    (stm : Stm) (x : Sent)
+    → isAccepted (answerTo stm x) ≡ true → isOf Code.ChangeState (x .command) ≡ true
+    → (firstOperand (x .command) ≡ 1 → HoldsNothing (stateAfter stm x))
+    × ((firstOperand (x .command) ≡ 1 → ⊥)
+    → (stateAfter stm x .track ≡ stm .track) × (stateAfter stm x .brakes ≡ stm .brakes))
+
+-- "0 DE, 1 CS, 2 HS, 3 DA, 4 FA": the state is the one that is ordered,
+abbrev pub stateNamed : ℕ → State → Type 0
+stateNamed n State.DE = n ≡ 0
+stateNamed n State.CS = n ≡ 1
+stateNamed n State.HS = n ≡ 2
+stateNamed n State.DA = n ≡ 3
+stateNamed n State.FA = n ≡ 4
+
+abbrev pub StateIsEntered : Type 0
+StateIsEntered =
+    (stm : Stm) (x : Sent)
+    → isAccepted (answerTo stm x) ≡ true → isOf Code.ChangeState (x .command) ≡ true
+    → stateNamed (firstOperand (x .command)) (stateAfter stm x .control .state)
+
+-- and no other command changes it, but for a start and a report in DA that shows NÖDBROMSFEL
+abbrev pub StateStays : Type 0
+StateStays =
+    (stm : Stm) (x : Sent)
+    → isAccepted (answerTo stm x) ≡ true
+    → (isOf Code.Start (x .command) || isOf Code.ChangeState (x .command)) ≡ false
+    → (isSupervised stm (x .command) && stateAfter stm x .brakes .failed) ≡ false
+    → stateAfter stm x .control ≡ stm .control

@@ -1,0 +1,200 @@
+-- What the bytes of a report say of the unit (01, "Report"). Proved in proofs/.
+use mathlib.Core.Path.{_≡_}
+use Prim.Native.Nat.{ℕ, max, _≤_, _<_}
+use mathlib.Core.Bool.{Bool, true, false, cond, _||_}
+use mathlib.Core.Logic.{_⊎_}
+use mathlib.Core.List.{List, [], _∷_, map, foldr}
+use lib.Dec.{leb}
+use Rattle.curve.specs.declared.Curve.{Curve}
+use Rattle.curve.specs.declared.Interval.{Interval}
+use Rattle.curve.specs.declared.Shown.{Shown}
+use Rattle.curve.specs.Boundary.{isReached}
+use Rattle.curve.specs.Intervals.{rankOf, shownOf, numberOf}
+use Rattle.curve.specs.Permitted.{permittedOf}
+use Rattle.rules.specs.Numbers.{isAccepted, barNumber, modeNumber, bitNumber}
+use Rattle.rules.specs.Operands.{bitOf}
+use Rattle.rules.specs.Table.{stands}
+use Rattle.rules.specs.Shows.{barOf, modeOf}
+use Rattle.rules.specs.Runs.{Sent, answerTo, stateAfter, momentOf, stateAtEnd, noneAccepted, freshens}
+use Rattle.rules.specs.History.{Tells, stateIn, orderIn, causesIn, permittedIn, vmaxIn, idIn, shownIn, barIn, modeIn, messagesIn, offeredIn}
+use Rattle.rules.specs.History.{isIn, isSupervised, curveAt, Holds, brakingIn, intervalIn}
+use Rattle.rules.specs.Claims.{UpToSources}
+use Rattle.rules.specs.Ground.{namesCurve}
+use Rattle.rules.specs.Columns.{isShort, IsFree}
+use Rattle.rules.specs.declared.State.{State}
+use Rattle.rules.specs.declared.Cause.{Cause}
+use Rattle.rules.specs.declared.Stm.{Stm}
+
+-- the largest number of which something holds
+pub record Largest (P : ℕ → Type 0) (n : ℕ) : Type 0 where
+  pub holds : P n
+  pub most : (m : ℕ) → P m → m ≤ n
+
+-- ---- the order
+
+-- a bit of the causes, and the order that it gives with flag bit 0 and without: 1 soft, 2 full, 3 emergency with full
+pub record Strength : Type 0 where
+  pub bit : ℕ
+  pub flagged : ℕ
+  pub plain : ℕ
+
+abbrev pub strength : ℕ → ℕ → ℕ → Strength
+strength bit flagged plain = record { bit = bit; flagged = flagged; plain = plain }
+
+-- the column "Strength": "“Soft” means soft with flag bit 0, else full"
+abbrev pub strengths : List Strength
+strengths =
+    strength 0 1 2
+    ∷ strength 1 3 3
+    ∷ strength 2 2 2
+    ∷ strength 3 1 2
+    ∷ strength 4 3 3
+    ∷ strength 5 3 3
+    ∷ strength 6 3 3
+    ∷ strength 7 2 2
+    ∷ strength 8 2 2
+    ∷ strength 9 1 2
+    ∷ strength 10 1 2
+    ∷ strength 11 3 3
+    ∷ []
+
+-- the strongest of the standing causes, 0 where none stands
+abbrev pub strongest : Bool → ℕ → ℕ
+strongest softly causes =
+    foldr max 0 (map (λ row. cond (bitOf (row .bit) causes) (cond softly (row .flagged) (row .plain)) 0) strengths)
+
+-- ---- the speeds
+
+-- "Permitted speed is the least of VMAX and the curves'", each curve's up to 300
+abbrev pub permits : Stm → Curve → ℕ
+permits stm curve = permittedOf curve (brakingIn stm .level) (brakingIn stm .leads .permitted)
+
+pub record UpToPermitted (stm : Stm) (vmax n : ℕ) : Type 0 where
+  pub limit : n ≤ vmax
+  pub top : n ≤ 300
+  pub curves : (curve : Curve) → Holds (stm .track .curves) curve → n ≤ permits stm curve
+
+-- ---- in DA
+
+pub record Offers (stm : Stm) (offered : ℕ) : Type 0 where
+  -- "1 if a fresh LOSS would drop a cause": one other than bit 10 stands and is releasable
+  pub loss :
+      Tells (bitOf 0 offered)
+      ((cause : Cause) × (stands (stm .brakes .causes) cause ≡ true) × (bitNumber cause ≡ 10 → ⊥)
+      × IsFree stm (stands (stm .brakes .causes)) cause)
+  -- "plus 2 if a fresh text would": bit 10 stands
+  pub text : bitOf 1 offered ≡ stands (stm .brakes .causes) Cause.Rolling
+  pub most : offered ≤ 3
+
+pub record WrittenInDA (stm : Stm) (report : List ℕ) : Type 0 where
+  pub state : stateIn report ≡ 3
+  pub order : orderIn report ≡ strongest (stm .train .softly) (causesIn report)
+  pub causes : (cause : Cause) → bitOf (bitNumber cause) (causesIn report) ≡ stands (stm .brakes .causes) cause
+  pub noOther : causesIn report < 4096
+  pub vmax : Largest (UpToSources (stm .train) (stm .track)) (vmaxIn report)
+  pub permitted : Largest (UpToPermitted stm (vmaxIn report)) (permittedIn report)
+  pub offered : Offers stm (offeredIn report)
+
+abbrev pub ReportInDA : Type 0
+ReportInDA =
+    (stm : Stm) (x : Sent)
+    → isAccepted (answerTo stm x) ≡ true → isIn State.DA (stateAfter stm x) ≡ true
+    → WrittenInDA (stateAfter stm x) (momentOf stm x .area)
+
+-- ---- the shown curve
+
+-- "latest computed interval, then lowest permitted speed, then lowest id"
+abbrev pub GoesFirst : Stm → Curve → Curve → Type 0
+GoesFirst stm curve other =
+    (rankOf (intervalIn stm other) < rankOf (intervalIn stm curve))
+    ⊎ ((rankOf (intervalIn stm other) ≡ rankOf (intervalIn stm curve))
+    × ((permits stm curve < permits stm other)
+    ⊎ ((permits stm curve ≡ permits stm other) × (curve .id ≤ other .id))))
+
+abbrev pub shownAsIn : Stm → Curve → Shown
+shownAsIn stm curve = shownOf (curve .past) (intervalIn stm curve)
+
+-- "B past permitted"
+abbrev pub isPastPermitted : Stm → Curve → Bool
+isPastPermitted stm curve = isReached curve (brakingIn stm .level) (stm .kept .speed) (brakingIn stm .leads .permitted)
+
+pub record Shows (stm : Stm) (report : List ℕ) : Type 0 where
+  pub curve : Curve
+  pub holds : Holds (stm .track .curves) curve
+  pub first : (other : Curve) → Holds (stm .track .curves) other → GoesFirst stm curve other
+  pub id : idIn report ≡ curve .id
+  pub interval : shownIn report ≡ numberOf (shownAsIn stm curve)
+  pub bar : barIn report ≡ barNumber (barOf (shownAsIn stm curve))
+  pub mode : modeIn report ≡ modeNumber (modeOf (isPastPermitted stm curve) (isShort stm) (shownAsIn stm curve))
+
+-- "shown id (255 none); interval (0 none ..)", "No curve: bar and mode 0"
+pub record ShowsNone (report : List ℕ) : Type 0 where
+  pub id : idIn report ≡ 255
+  pub interval : shownIn report ≡ 0
+  pub bar : barIn report ≡ 0
+  pub mode : modeIn report ≡ 0
+
+abbrev pub ShownInDA : Type 0
+ShownInDA =
+    (stm : Stm) (x : Sent)
+    → isAccepted (answerTo stm x) ≡ true → isIn State.DA (stateAfter stm x) ≡ true
+    → ((curve : Curve) → Holds (stateAfter stm x .track .curves) curve → Shows (stateAfter stm x) (momentOf stm x .area))
+    × (((curve : Curve) → Holds (stateAfter stm x .track .curves) curve → ⊥) → ShowsNone (momentOf stm x .area))
+
+-- ---- outside DA
+
+-- "Outside DA order is 0 (FA: 3), id 255, messages as standing, the rest 0"
+abbrev pub stateAndOrder : State → List ℕ → Type 0
+stateAndOrder State.DE report = (stateIn report ≡ 0) × (orderIn report ≡ 0)
+stateAndOrder State.CS report = (stateIn report ≡ 1) × (orderIn report ≡ 0)
+stateAndOrder State.HS report = (stateIn report ≡ 2) × (orderIn report ≡ 0)
+stateAndOrder State.DA report = ⊥
+stateAndOrder State.FA report = (stateIn report ≡ 4) × (orderIn report ≡ 3)
+
+pub record WrittenOutside (state : State) (report : List ℕ) : Type 0 where
+  pub first : stateAndOrder state report
+  pub causes : causesIn report ≡ 0
+  pub permitted : permittedIn report ≡ 0
+  pub vmax : vmaxIn report ≡ 0
+  pub shown : ShowsNone report
+  pub offered : offeredIn report ≡ 0
+
+abbrev pub ReportOutsideDA : Type 0
+ReportOutsideDA =
+    (stm : Stm) (x : Sent)
+    → isAccepted (answerTo stm x) ≡ true → isIn State.DA (stateAfter stm x) ≡ false
+    → WrittenOutside (stateAfter stm x .control .state) (momentOf stm x .area)
+
+-- ---- the messages, in every state
+
+-- "bit 0 DRIFTBROMSFEL, 1 NÖDBROMSFEL, 2 TRYCKGIVARFEL at the last odometer report"
+pub record Tellings (stm : Stm) (messages : ℕ) : Type 0 where
+  pub drift : bitOf 0 messages ≡ stm .brakes .drift
+  pub failed : bitOf 1 messages ≡ stm .brakes .failed
+  pub fault : bitOf 2 messages ≡ stm .feedback .fault
+  pub most : messages < 8
+
+abbrev pub MessagesAreWritten : Type 0
+MessagesAreWritten =
+    (stm : Stm) (x : Sent)
+    → isAccepted (answerTo stm x) ≡ true → Tellings (stateAfter stm x) (messagesIn (momentOf stm x .area))
+
+-- ---- past in B
+
+-- "A curve's past in B is noted at reports in DA": it was noted, or the computed interval is B or later,
+abbrev pub PastIsNoted : Type 0
+PastIsNoted =
+    (stm : Stm) (x : Sent) (place : ℕ)
+    → isAccepted (answerTo stm x) ≡ true → isSupervised stm (x .command) ≡ true → curveAt place stm .held ≡ true
+    → curveAt place (stateAfter stm x) .past
+    ≡ (curveAt place stm .past
+    || leb (rankOf Interval.B) (rankOf (intervalIn (stateAfter stm x) (curveAt place (stateAfter stm x)))))
+
+-- and at nothing else
+abbrev pub PastStays : Type 0
+PastStays =
+    (stm : Stm) (xs : List Sent) (place : ℕ)
+    → curveAt place stm .held ≡ true
+    → noneAccepted (λ before command. freshens command || namesCurve (curveAt place stm .id) command) stm xs ≡ true
+    → noneAccepted isSupervised stm xs ≡ true
+    → curveAt place (stateAtEnd stm xs) .past ≡ curveAt place stm .past
