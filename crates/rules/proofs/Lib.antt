@@ -5,6 +5,11 @@ pub mod Repeats
 pub mod Once
 pub mod Ordering
 pub mod Standing
+pub mod AtPlaces
+pub mod After
+pub mod Resent
+pub mod Ground
+pub mod SectionGround
 pub mod Claims
 pub mod Holding
 pub mod SoundTracks

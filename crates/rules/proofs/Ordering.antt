@@ -30,7 +30,7 @@ use Rattle.rules.proofs.Told.{code-is, state-is}
 
 -- ---- the bits
 
-stands-for : (test : Cause → Bool) (cause : Cause) → stands (causesFor test) cause ≡ test cause
+pub stands-for : (test : Cause → Bool) (cause : Cause) → stands (causesFor test) cause ≡ test cause
 stands-for test Cause.Overspeed = refl
 stands-for test Cause.EmergencyOverspeed = refl
 stands-for test Cause.CurveFull = refl
@@ -45,7 +45,7 @@ stands-for test Cause.Rolling = refl
 stands-for test Cause.ServiceFault = refl
 
 -- two tests that pass for the same causes
-same-tests : (f g : Cause → Bool) → causesFor f ≡ causesFor g → (cause : Cause) → f cause ≡ g cause
+pub same-tests : (f g : Cause → Bool) → causesFor f ≡ causesFor g → (cause : Cause) → f cause ≡ g cause
 same-tests f g e cause = sym (stands-for f cause) ∙ ap (λ c. stands c cause) e ∙ stands-for g cause
 
 pub stands-added : (ordered : Cause → Bool) (c : Causes) (cause : Cause)
@@ -80,16 +80,16 @@ brakes-after stm x e = ap (λ after. after .brakes) (after-accepted stm x e)
 -- ---- an odometer report in DA
 
 -- the unit once the causes are added
-addedAt : Stm → List ℕ → Stm
+unfoldable pub addedAt : Stm → List ℕ → Stm
 addedAt stm command = adds (measuredAt stm command)
 
 -- the added causes are those that stood and those ordered now, and what the table looks at stays
-causes-added : (stm : Stm) (command : List ℕ)
+pub causes-added : (stm : Stm) (command : List ℕ)
     → addedAt stm command .brakes .causes ≡ addedCauses (orderedNow stm command) (stm .brakes .causes)
 unfolding addedAt adds addedBrakes causesAt orderedNow seenAt measuredAt notes measures moves notedBrakes serviceFails
 causes-added stm command = refl
 
-seen-added : (stm : Stm) (command : List ℕ) → seenIn (addedAt stm command) ≡ seenAt stm command
+pub seen-added : (stm : Stm) (command : List ℕ) → seenIn (addedAt stm command) ≡ seenAt stm command
 unfolding addedAt adds addedBrakes seenAt seenIn
 seen-added stm command = refl
 
@@ -98,14 +98,14 @@ unfolding addedAt adds measuredAt notes measures moves
 control-added stm command = refl
 
 -- the brakes that a release leaves then
-releasedAt : Stm → List ℕ → Brakes
+unfoldable pub releasedAt : Stm → List ℕ → Brakes
 releasedAt stm command =
     let r = readingIn command in
     releasedBrakes (seenIn (addedAt stm command)) (isFresh (stm .kept .loss) (r .loss)) (isFresh (stm .kept .text) (r .text))
     (addedAt stm command .brakes)
 
 -- the last step: the unit is led to FA, or its brakes are released
-abbrev ended : Bool → Stm → Brakes → Stm
+abbrev pub ended : Bool → Stm → Brakes → Stm
 ended failed stm released = cond failed (withState stm State.FA) (withBrakes stm released)
 
 ended-brakes : (failed : Bool) (stm : Stm) (released : Brakes) → isState State.DA (stm .control .state) ≡ true
@@ -120,22 +120,22 @@ ended-since true stm released e = refl
 ended-since false stm released e = e
 
 -- the whole report
-endedAt : Stm → List ℕ → Stm
+unfoldable pub endedAt : Stm → List ℕ → Stm
 endedAt stm command = ended (addedAt stm command .brakes .failed) (addedAt stm command) (releasedAt stm command)
 
-done-supervised : (stm : Stm) (command : List ℕ) → isSupervised stm command ≡ true → doneBy command stm ≡ endedAt stm command
+pub done-supervised : (stm : Stm) (command : List ℕ) → isSupervised stm command ≡ true → doneBy command stm ≡ endedAt stm command
 unfolding endedAt releasedAt addedAt measuredAt supervised releases
 done-supervised stm command u =
     let t = both (isOf Code.Odometer command) (isState State.DA (stm .control .state)) u in
     ap (λ code. carriedOut code (operandsOf command) stm) (code-is Code.Odometer (codeOf (codeByte command)) (t .0))
     ∙ ap (λ state. reportedIn state (readingIn command) stm) (state-is State.DA (stm .control .state) (t .1))
 
-after-report : (stm : Stm) (x : Sent) → isAccepted (answerTo stm x) ≡ true → isSupervised stm (x .command) ≡ true
+pub after-report : (stm : Stm) (x : Sent) → isAccepted (answerTo stm x) ≡ true → isSupervised stm (x .command) ≡ true
     → stateAfter stm x ≡ remembered (x .command) (endedAt stm (x .command))
 unfolding acceptedOf
 after-report stm x e u = after-accepted stm x e ∙ ap (remembered (x .command)) (done-supervised stm (x .command) u)
 
-report-brakes : (stm : Stm) (command : List ℕ) → isSupervised stm command ≡ true
+pub report-brakes : (stm : Stm) (command : List ℕ) → isSupervised stm command ≡ true
     → (isState State.DA (endedAt stm command .control .state) ≡ true → endedAt stm command .brakes ≡ releasedAt stm command)
     × (isState State.DA (endedAt stm command .control .state) ≡ false → endedAt stm command .brakes ≡ addedAt stm command .brakes)
 unfolding endedAt

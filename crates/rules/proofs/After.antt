@@ -1,0 +1,176 @@
+-- The parts of the unit after one accepted command: train, track, feedback, kept figures and control. Assumes nothing.
+use mathlib.Core.Path.{_≡_, refl, sym, _∙_, ap}
+use Prim.Native.Nat.{ℕ}
+use mathlib.Core.Bool.{Bool, true, false, cond, _&&_, _||_, false≢true}
+use mathlib.Core.List.{List}
+use Rattle.pressure.specs.declared.Measured.{Measured}
+use Rattle.pressure.specs.Report.{reported}
+use Rattle.curve.specs.declared.Curve.{Curve}
+use Rattle.curve.specs.Places.{movedAll}
+use Rattle.wire.specs.Numbers.{byteAt}
+use Rattle.rules.specs.Numbers.{codeOf, stateOf, isAccepted, isCode, isState}
+use Rattle.rules.specs.Operands.{codeByte, operandsOf, readingOf, curveOf, sectionOf}
+use Rattle.rules.specs.Places.{movedSection, movedTrack, givenCurve, endedCurve, givenSection, endedSection}
+use Rattle.rules.specs.Releases.{releasedBrakes}
+use Rattle.rules.specs.Odometer.{withState, withBrakes, seenIn, keptOf, moves, measures, notedTrack, notes, adds, releases, isFresh, supervised, reportedIn}
+use Rattle.rules.specs.Commands.{entered, stopped, fortyBy, carriedOut, remembered, acceptedOf}
+use Rattle.rules.specs.Runs.{Sent, answerTo, stateAfter, isOf, ordersCS, freshens}
+use Rattle.rules.specs.History.{isIn, isReport, isSupervised, isMoving}
+use Rattle.rules.specs.Braking.{readingIn, measuredAt}
+use Rattle.rules.specs.declared.Code.{Code}
+use Rattle.rules.specs.declared.State.{State}
+use Rattle.rules.specs.declared.Control.{Control}
+use Rattle.rules.specs.declared.Train.{Train}
+use Rattle.rules.specs.declared.Track.{Track}
+use Rattle.rules.specs.declared.Section.{Section}
+use Rattle.rules.specs.declared.Brakes.{Brakes}
+use Rattle.rules.specs.declared.Kept.{Kept}
+use Rattle.rules.specs.declared.Reading.{Reading}
+use Rattle.rules.specs.declared.Stm.{Stm}
+use Rattle.rules.proofs.Answers.{after-accepted}
+use Rattle.rules.proofs.Tests.{impossible, both}
+use Rattle.rules.proofs.Told.{code-is, state-is}
+use Rattle.rules.proofs.Ordering.{doneBy, addedAt, releasedAt, endedAt, ended, done-supervised}
+
+-- ---- what is remembered of a command changes nothing else
+
+module _ (stm : Stm) (x : Sent) (e : isAccepted (answerTo stm x) ≡ true) where
+  pub control-after : stateAfter stm x .control ≡ doneBy (x .command) stm .control
+  unfolding acceptedOf remembered
+  control-after = ap (λ after. after .control) (after-accepted stm x e)
+
+  pub train-after : stateAfter stm x .train ≡ doneBy (x .command) stm .train
+  unfolding acceptedOf remembered
+  train-after = ap (λ after. after .train) (after-accepted stm x e)
+
+  pub track-after : stateAfter stm x .track ≡ doneBy (x .command) stm .track
+  unfolding acceptedOf remembered
+  track-after = ap (λ after. after .track) (after-accepted stm x e)
+
+  pub feedback-after : stateAfter stm x .feedback ≡ doneBy (x .command) stm .feedback
+  unfolding acceptedOf remembered
+  feedback-after = ap (λ after. after .feedback) (after-accepted stm x e)
+
+  pub kept-after : stateAfter stm x .kept ≡ doneBy (x .command) stm .kept
+  unfolding acceptedOf remembered
+  kept-after = ap (λ after. after .kept) (after-accepted stm x e)
+
+-- ---- a report, by the state that it finds
+
+-- a part that neither leading to FA nor a release changes
+ended-part : {A : Type 0} (part : Stm → A) (failed : Bool) (stm : Stm) (released : Brakes)
+    → part (withState stm State.FA) ≡ part stm → part (withBrakes stm released) ≡ part stm
+    → part (cond failed (withState stm State.FA) (withBrakes stm released)) ≡ part stm
+ended-part part true stm released f g = f
+ended-part part false stm released f g = g
+
+releases-part : {A : Type 0} (part : Stm → A) (loss text : Bool) (stm : Stm)
+    → ((state : State) → part (withState stm state) ≡ part stm) → ((b : Brakes) → part (withBrakes stm b) ≡ part stm)
+    → part (releases loss text stm) ≡ part stm
+unfolding releases
+releases-part part loss text stm f g =
+    ended-part part (stm .brakes .failed) stm (releasedBrakes (seenIn stm) loss text (stm .brakes)) (f State.FA) (g _)
+
+module _ (r : Reading) (stm : Stm) where
+  -- moved, measured and noted, before causes are added
+  abbrev noted : Stm
+  noted = notes r (measures r (moves r stm))
+
+  supervised-part : {A : Type 0} (part : Stm → A)
+      → ((state : State) → part (withState (adds noted) state) ≡ part (adds noted))
+      → ((b : Brakes) → part (withBrakes (adds noted) b) ≡ part (adds noted))
+      → part (supervised r stm) ≡ part (adds noted)
+  unfolding supervised
+  supervised-part part f g =
+      releases-part part (isFresh (stm .kept .loss) (r .loss)) (isFresh (stm .kept .text) (r .text)) (adds noted) f g
+
+  supervised-train : supervised r stm .train ≡ stm .train
+  unfolding adds notes measures moves
+  supervised-train = supervised-part (λ s. s .train) (λ _. refl) (λ _. refl)
+
+  supervised-track :
+      supervised r stm .track
+      ≡ notedTrack (stm .train) (keptOf r) (movedTrack (stm .train .length) (r .moved) (stm .track))
+  unfolding adds notes measures moves
+  supervised-track = supervised-part (λ s. s .track) (λ _. refl) (λ _. refl)
+
+  supervised-feedback :
+      supervised r stm .feedback ≡ reported (stm .feedback .phase) (stm .train .feed) (stm .train .pressure) (r .external)
+  unfolding adds notes measures moves
+  supervised-feedback = supervised-part (λ s. s .feedback) (λ _. refl) (λ _. refl)
+
+  supervised-kept : supervised r stm .kept ≡ keptOf r
+  unfolding adds notes measures moves
+  supervised-kept = supervised-part (λ s. s .kept) (λ _. refl) (λ _. refl)
+
+  -- the train stays; the track moves in HS and DA, and is noted in DA; every report measures and keeps its figures
+  pub reported-train : (state : State) → reportedIn state r stm .train ≡ stm .train
+  unfolding measures moves
+  reported-train State.DE = refl
+  reported-train State.CS = refl
+  reported-train State.HS = refl
+  reported-train State.DA = supervised-train
+  reported-train State.FA = refl
+
+  abbrev pub trackIn : State → Track
+  trackIn State.DE = stm .track
+  trackIn State.CS = stm .track
+  trackIn State.HS = movedTrack (stm .train .length) (r .moved) (stm .track)
+  trackIn State.DA = notedTrack (stm .train) (keptOf r) (movedTrack (stm .train .length) (r .moved) (stm .track))
+  trackIn State.FA = stm .track
+
+  pub reported-track : (state : State) → reportedIn state r stm .track ≡ trackIn state
+  unfolding measures moves
+  reported-track State.DE = refl
+  reported-track State.CS = refl
+  reported-track State.HS = refl
+  reported-track State.DA = supervised-track
+  reported-track State.FA = refl
+
+  pub reported-feedback : (state : State) → isState State.FA state ≡ false
+      → reportedIn state r stm .feedback ≡ reported (stm .feedback .phase) (stm .train .feed) (stm .train .pressure) (r .external)
+  unfolding measures moves
+  reported-feedback State.DE e = refl
+  reported-feedback State.CS e = refl
+  reported-feedback State.HS e = refl
+  reported-feedback State.DA e = supervised-feedback
+  reported-feedback State.FA e = impossible (sym e)
+
+  pub reported-kept : (state : State) → isState State.FA state ≡ false → reportedIn state r stm .kept ≡ keptOf r
+  unfolding measures moves
+  reported-kept State.DE e = refl
+  reported-kept State.CS e = refl
+  reported-kept State.HS e = refl
+  reported-kept State.DA e = supervised-kept
+  reported-kept State.FA e = impossible (sym e)
+
+-- ---- every command
+
+-- only a start brings another train
+pub train-kept : (code : Code) (s : List ℕ) (stm : Stm) → isCode Code.Start code ≡ false → carriedOut code s stm .train ≡ stm .train
+unfolding stopped
+train-kept Code.Start s stm e = impossible (sym e)
+train-kept Code.ChangeState s stm e = entered-train (stateOf (byteAt s 0))
+  where
+    entered-train : (state : State) → entered state stm .train ≡ stm .train
+    entered-train State.DE = refl
+    entered-train State.CS = refl
+    entered-train State.HS = refl
+    entered-train State.DA = refl
+    entered-train State.FA = refl
+train-kept Code.Odometer s stm e = reported-train (readingOf s) stm (stm .control .state)
+train-kept Code.NewCurve s stm e = refl
+train-kept Code.EndCurve s stm e = refl
+train-kept Code.NewSection s stm e = refl
+train-kept Code.EndSection s stm e = refl
+train-kept Code.StopPassed s stm e = refl
+train-kept Code.Proceed s stm e = refl
+train-kept Code.BaliseError s stm e = refl
+
+-- entering a state other than CS leaves the track
+pub track-entered : (state : State) (stm : Stm) → isState State.CS state ≡ false → entered state stm .track ≡ stm .track
+track-entered State.DE stm e = refl
+track-entered State.CS stm e = impossible (sym e)
+track-entered State.HS stm e = refl
+track-entered State.DA stm e = refl
+track-entered State.FA stm e = refl
