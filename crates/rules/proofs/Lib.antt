@@ -8,7 +8,10 @@ pub mod Standing
 pub mod AtPlaces
 pub mod After
 pub mod Resent
+pub mod Held
+pub mod Fresh
 pub mod Ground
+pub mod Readings
 pub mod SectionGround
 pub mod Claims
 pub mod Holding

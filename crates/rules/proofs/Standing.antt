@@ -37,7 +37,7 @@ module _ (P : Stm → Type 0) (f g : Stm → List ℕ → Bool)
   kept-once stm x true e n m p = step stm x e (not-true (f stm (x .command)) n) (not-true (g stm (x .command)) m) p
   kept-once stm x false e n m p = subst P (sym (after-other stm x e)) p
 
-  kept-to-end : (stm : Stm) (xs : List Sent) → noneAccepted f stm xs ≡ true → noneAccepted g stm xs ≡ true
+  pub kept-to-end : (stm : Stm) (xs : List Sent) → noneAccepted f stm xs ≡ true → noneAccepted g stm xs ≡ true
       → P stm → P (stateAtEnd stm xs)
   unfolding noneAccepted stateAtEnd
   kept-to-end stm [] n m p = p
