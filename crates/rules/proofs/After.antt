@@ -174,3 +174,32 @@ track-entered State.CS stm e = impossible (sym e)
 track-entered State.HS stm e = refl
 track-entered State.DA stm e = refl
 track-entered State.FA stm e = refl
+
+-- ---- a report in DA, and what the table of causes looks at
+
+module _ (stm : Stm) (x : Sent) (e : isAccepted (answerTo stm x) ≡ true) (u : isSupervised stm (x .command) ≡ true) where
+  supervised-done : doneBy (x .command) stm ≡ supervised (readingIn (x .command)) stm
+  supervised-done =
+      let t = both (isReport (x .command)) (isIn State.DA stm) u in
+      ap (λ code. carriedOut code (operandsOf (x .command)) stm) (code-is Code.Odometer (codeOf (codeByte (x .command))) (t .0))
+      ∙ ap (λ state. reportedIn state (readingIn (x .command)) stm) (state-is State.DA (stm .control .state) (t .1))
+
+  pub train-measured : stateAfter stm x .train ≡ measuredAt stm (x .command) .train
+  unfolding measuredAt notes measures moves
+  train-measured =
+      train-after stm x e ∙ ap (λ s. s .train) supervised-done ∙ supervised-train (readingIn (x .command)) stm
+
+  pub track-measured : stateAfter stm x .track ≡ measuredAt stm (x .command) .track
+  unfolding measuredAt notes measures moves
+  track-measured =
+      track-after stm x e ∙ ap (λ s. s .track) supervised-done ∙ supervised-track (readingIn (x .command)) stm
+
+  pub feedback-measured : stateAfter stm x .feedback ≡ measuredAt stm (x .command) .feedback
+  unfolding measuredAt notes measures moves
+  feedback-measured =
+      feedback-after stm x e ∙ ap (λ s. s .feedback) supervised-done ∙ supervised-feedback (readingIn (x .command)) stm
+
+  pub kept-measured : stateAfter stm x .kept ≡ measuredAt stm (x .command) .kept
+  unfolding measuredAt notes measures moves
+  kept-measured =
+      kept-after stm x e ∙ ap (λ s. s .kept) supervised-done ∙ supervised-kept (readingIn (x .command)) stm

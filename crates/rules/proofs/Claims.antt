@@ -87,7 +87,7 @@ no-place : (stm : Stm) (x : Sent) → answerTo stm x ≡ Answer.AllHeld
 unfolding callOf answerOf
 no-place stm x e = given-whole (formOf (x .command) (length (x .area))) stm (x .command) (ap isAllHeld e)
 
-all-holds : {A : Type 0} (test : A → Bool) (xs : List A) → allOf test xs ≡ true → (x : A) → x ∈ xs → test x ≡ true
+pub all-holds : {A : Type 0} (test : A → Bool) (xs : List A) → allOf test xs ≡ true → (x : A) → x ∈ xs → test x ≡ true
 unfolding allOf
 all-holds test [] e x m = absurd (List·Memᴰ·not-nil m)
 all-holds test (y ∷ ys) e x (List·Memᴰ·head p) = rw p (both (test y) (allOf test ys) e .0)

@@ -10,6 +10,7 @@ pub mod After
 pub mod Resent
 pub mod Held
 pub mod Fresh
+pub mod Columns
 pub mod Ground
 pub mod Readings
 pub mod SectionGround

@@ -34,10 +34,10 @@ use Rattle.rules.proofs.TwoTracks.{CurvesBelow, SectionsBelow, TracksBe
 -- ---- one curve
 
 -- the speed that a place permits
-abbrev permits : Braking → ℕ → Curve → ℕ
+abbrev pub permits : Braking → ℕ → Curve → ℕ
 permits braking v curve = permittedHere (judgedOf braking v curve)
 
-held-permits : (braking : Braking) (v : ℕ) (curve : Curve) → curve .held ≡ true
+pub held-permits : (braking : Braking) (v : ℕ) (curve : Curve) → curve .held ≡ true
     → permits braking v curve ≡ permittedOf curve (braking .level) (braking .leads .permitted)
 unfolding judgedOf
 held-permits braking v curve e = rw e
@@ -47,7 +47,7 @@ unfolding judgedOf
 free-permits braking v curve e = rw e
 
 -- it brakes, in this interval or a later one
-abbrev brakes : Interval → Braking → ℕ → Curve → Bool
+abbrev pub brakes : Interval → Braking → ℕ → Curve → Bool
 brakes interval braking v curve = brakesFrom interval (judgedOf braking v curve)
 
 held-if-braking : (interval : Interval) (braking : Braking) (v : ℕ) (curve : Curve)
@@ -60,13 +60,13 @@ held-if-braking interval braking v curve e =
 
 -- ---- all curves
 
-least-permitted-is : (braking : Braking) (v : ℕ) (curves : List Curve)
+pub least-permitted-is : (braking : Braking) (v : ℕ) (curves : List Curve)
     → leastPermitted (judgedAll braking v curves) ≡ foldr min 300 (map (permits braking v) curves)
 unfolding leastPermitted
 least-permitted-is braking v [] = refl
 least-permitted-is braking v (curve ∷ curves) = rw (least-permitted-is braking v curves)
 
-any-brakes-is : (interval : Interval) (braking : Braking) (v : ℕ) (curves : List Curve)
+pub any-brakes-is : (interval : Interval) (braking : Braking) (v : ℕ) (curves : List Curve)
     → anyBrakes interval (judgedAll braking v curves) ≡ anyOf (brakes interval braking v) curves
 unfolding anyBrakes anyOf
 any-brakes-is interval braking v [] = refl
