@@ -352,7 +352,7 @@ unfolding countedTimes
 counted limit zero l = refl
 counted limit (suc n) l = rw (counted limit n (omega arith), lt-leb limit (n + 1) (omega arith), add-one)
 
-at-limit : (limit n : ℕ) → n < limit → leb limit (n + 1) ≡ eqb (n + 1) limit
+pub at-limit : (limit n : ℕ) → n < limit → leb limit (n + 1) ≡ eqb (n + 1) limit
 at-limit limit n l =
     elim (ℕ-discrete (n + 1) limit) [
       | yes same ↦ rw (le-leb limit (n + 1) (omega arith), eq-eqb (n + 1) limit same)

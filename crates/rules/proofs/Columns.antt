@@ -325,7 +325,7 @@ module _ (stm : Stm) (x : Sent) (e : isAccepted (answerTo stm x) ≡ true) (u : 
   unfolding releasableNow
   releasable-at cause =
       let same = ap (λ s. isReleasable s standing cause) seen-at ∙ released-alike cause
-          ∙ ap (λ s. isReleasable s standing cause) (sym seen-after) in
+      ∙ ap (λ s. isReleasable s standing cause) (sym seen-after) in
       let told = tells-by same (free-in after standing cause) in (
         λ r. let free = told .0 r in record {
           itself = free .itself;

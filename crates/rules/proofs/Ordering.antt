@@ -93,7 +93,7 @@ pub seen-added : (stm : Stm) (command : List ℕ) → seenIn (addedAt stm comman
 unfolding addedAt adds addedBrakes seenAt seenIn
 seen-added stm command = refl
 
-control-added : (stm : Stm) (command : List ℕ) → addedAt stm command .control ≡ stm .control
+pub control-added : (stm : Stm) (command : List ℕ) → addedAt stm command .control ≡ stm .control
 unfolding addedAt adds measuredAt notes measures moves
 control-added stm command = refl
 
@@ -237,7 +237,7 @@ others-order-five-to-nine code which cause e =
     (leb-true 5 bit (t .0), leb-true bit 9 (t .1))
 
 -- a start and entering CS
-fresh-brakes : (stm : Stm) (command : List ℕ) → freshens command ≡ true → doneBy command stm .brakes ≡ freshBrakes
+pub fresh-brakes : (stm : Stm) (command : List ℕ) → freshens command ≡ true → doneBy command stm .brakes ≡ freshBrakes
 unfolding freshWith
 fresh-brakes stm command f =
     let code = codeOf (codeByte command) in

@@ -101,4 +101,10 @@ DriftIsShown =
     ≡ ((stm .brakes .drift || orderedNow stm (x .command) Cause.ServiceFault) && isOrdered (stateAfter stm x)))
     × (isSupervised stm (x .command) ≡ true → isIn State.DA (stateAfter stm x) ≡ false
     → stateAfter stm x .brakes .drift ≡ (stm .brakes .drift || orderedNow stm (x .command) Cause.ServiceFault))
-    × (isSupervised stm (x .command) ≡ false → freshens (x .command) ≡ false → stateAfter stm x .brakes .drift ≡ stm .brakes .drift)
+
+-- another command than a report in DA, a start and CS leaves both messages
+abbrev pub FaultsStay : Type 0
+FaultsStay =
+    (stm : Stm) (x : Sent)
+    → isAccepted (answerTo stm x) ≡ true → isSupervised stm (x .command) ≡ false → freshens (x .command) ≡ false
+    → (stateAfter stm x .brakes .drift ≡ stm .brakes .drift) × (stateAfter stm x .brakes .failed ≡ stm .brakes .failed)
