@@ -219,7 +219,7 @@ lower-told x y then e =
       | inr t ↦ let p = both (eqb x y) then t in (le-of-eq (eqb-true x y (p .0)), λ same. p .1)
     ]
 
-not-lower-told : (x y : ℕ) (then : Bool) → isLower x y then ≡ false → (y ≤ x) × (x ≡ y → then ≡ false)
+pub not-lower-told : (x y : ℕ) (then : Bool) → isLower x y then ≡ false → (y ≤ x) × (x ≡ y → then ≡ false)
 not-lower-told x y then e =
     let t = neither (ltb x y) (eqb x y && then) e in
     (ltb-false x y (t .0), λ same. second-fails (eqb x y) then (eq-eqb x y same) (t .1))
@@ -331,7 +331,7 @@ one-of-all best (next ∷ rest) =
       | inr m ↦ inr (List·Memᴰ·tail m)
     ]
 
-held-one : (xs : List Candidate) → chosenFrom noCandidate xs .judged .held ≡ true → chosenFrom noCandidate xs ∈ xs
+pub held-one : (xs : List Candidate) → chosenFrom noCandidate xs .judged .held ≡ true → chosenFrom noCandidate xs ∈ xs
 held-one xs h =
     elim (one-of-all noCandidate xs) [
       | inl e ↦ absurd (false≢true (sym (ap (λ shown. shown .judged .held) e) ∙ h))

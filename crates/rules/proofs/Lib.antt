@@ -11,6 +11,8 @@ pub mod Resent
 pub mod Held
 pub mod Fresh
 pub mod Columns
+pub mod Bits
+pub mod Written
 pub mod Checked
 pub mod Timers
 pub mod Ground

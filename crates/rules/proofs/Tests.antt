@@ -144,7 +144,7 @@ module _ {A : Type 0} (p : A → Bool) where
       (all-map q f h xs (and-right (p x) (allOf p xs) e))
 
 -- a list joined with what a function says of each of its elements
-pub zip-self : {A B : Type 0} (f : A → B → A) (g : A → B) (xs : List A) → zipWith f xs (map g xs) ≡ map (λ x. f x (g x)) xs
+pub zip-self : {A B C : Type 0} (f : A → B → C) (g : A → B) (xs : List A) → zipWith f xs (map g xs) ≡ map (λ x. f x (g x)) xs
 unfolding zipWith
 zip-self f g [] = refl
 zip-self f g (x ∷ xs) = ap (_∷_ (f x (g x))) (zip-self f g xs)

@@ -1,0 +1,145 @@
+-- The causes, the messages and the offer as numbers: every set of causes and every message is tried.
+use mathlib.Core.Path.{_≡_, refl, sym, _∙_, ap}
+use Prim.Native.Nat.{ℕ, zero, suc, _+_, _<_, _≤_}
+use native.Mathlib.Nat.{suc-inj, suc-ne-zero}
+use mathlib.Core.Bool.{Bool, true, false, cond, not, _&&_}
+use mathlib.Core.List.{List, [], _∷_}
+use lib.Dec.{eqb, leb, ltb, lit<, lit≤}
+use lib.ListN.{length, getD}
+use borrow.Author.Tests.{eqb-true, ltb-true}
+use Rattle.rules.specs.Numbers.{orderNumber, bitNumber}
+use Rattle.rules.specs.Operands.{bitOf}
+use Rattle.rules.specs.Places.{anyOf, allOf}
+use Rattle.rules.specs.Table.{causes, stands, standsWith, orderOf}
+use Rattle.rules.specs.Reports.{bitValue, causesNumber}
+use Rattle.rules.specs.Written.{strongest}
+use Rattle.rules.specs.declared.Cause.{Cause}
+use Rattle.rules.specs.declared.Causes.{Causes}
+use Rattle.rules.proofs.Tests.{and-left, and-right}
+use Rattle.rules.proofs.Claims.{all-holds}
+use Rattle.rules.proofs.Columns.{listed}
+
+-- ---- a test tried at every list of so many bits
+
+abbrev tried : ℕ → (List Bool → Bool) → Bool
+tried zero test = test []
+tried (suc n) test = tried n (λ bits. test (true ∷ bits)) && tried n (λ bits. test (false ∷ bits))
+
+passes : (n : ℕ) (test : List Bool → Bool) → tried n test ≡ true → (bits : List Bool) → length bits ≡ n → test bits ≡ true
+passes zero test e [] h = e
+passes zero test e (bit ∷ bits) h = absurd (suc-ne-zero _ h)
+passes (suc n) test e [] h = absurd (suc-ne-zero _ (sym h))
+passes (suc n) test e (true ∷ bits) h =
+    passes n (λ rest. test (true ∷ rest)) (and-left (tried n (λ rest. test (true ∷ rest))) (tried n (λ rest. test (false ∷ rest))) e)
+    bits (suc-inj h)
+passes (suc n) test e (false ∷ bits) h =
+    passes n (λ rest. test (false ∷ rest)) (and-right (tried n (λ rest. test (true ∷ rest))) (tried n (λ rest. test (false ∷ rest))) e)
+    bits (suc-inj h)
+
+abbrev same : Bool → Bool → Bool
+same true b = b
+same false b = not b
+
+same-is : (a b : Bool) → same a b ≡ true → a ≡ b
+same-is true b e = sym e
+same-is false true e = e
+same-is false false e = refl
+
+-- ---- the causes
+
+-- each cause is its bit, there is no other bit, and the order is the strongest of the written table
+abbrev isWritten : Causes → Bool
+isWritten c =
+    allOf (λ cause. same (bitOf (bitNumber cause) (causesNumber c)) (stands c cause)) causes
+    && ltb (causesNumber c) 4096
+    && eqb (orderNumber (orderOf true c)) (strongest true (causesNumber c))
+    && eqb (orderNumber (orderOf false c)) (strongest false (causesNumber c))
+
+-- the causes of twelve bits
+abbrev causesAre : List Bool → Causes
+causesAre bits = record {
+  overspeed = getD bits 0 false;
+  excess = getD bits 1 false;
+  full = getD bits 2 false;
+  soft = getD bits 3 false;
+  emergency = getD bits 4 false;
+  aimed = getD bits 5 false;
+  unexpected = getD bits 6 false;
+  speed = getD bits 7 false;
+  landslide = getD bits 8 false;
+  balise = getD bits 9 false;
+  rolling = getD bits 10 false;
+  service = getD bits 11 false;
+}
+
+abbrev bitsOf : Causes → List Bool
+bitsOf c =
+    c .overspeed
+    ∷ c .excess
+    ∷ c .full
+    ∷ c .soft
+    ∷ c .emergency
+    ∷ c .aimed
+    ∷ c .unexpected
+    ∷ c .speed
+    ∷ c .landslide
+    ∷ c .balise
+    ∷ c .rolling
+    ∷ c .service
+    ∷ []
+
+all-written : tried 12 (λ bits. isWritten (causesAre bits)) ≡ true
+unfolding anyOf allOf causesNumber orderOf standsWith
+all-written = refl
+
+is-written : (c : Causes) → isWritten c ≡ true
+is-written c = passes 12 (λ bits. isWritten (causesAre bits)) all-written (bitsOf c) refl
+
+module _ (c : Causes) where
+  abbrev number : ℕ
+  number = causesNumber c
+
+  abbrev bitsAre : Bool
+  bitsAre = allOf (λ cause. same (bitOf (bitNumber cause) number) (stands c cause)) causes
+
+  abbrev strongestIs : Bool → Bool
+  strongestIs softly = eqb (orderNumber (orderOf softly c)) (strongest softly number)
+
+  pub bit-stands : (cause : Cause) → bitOf (bitNumber cause) number ≡ stands c cause
+  bit-stands cause =
+      let e = and-left bitsAre (ltb number 4096) (and-left _ (strongestIs true) (and-left _ (strongestIs false) (is-written c))) in
+      same-is _ _ (all-holds (λ each. same (bitOf (bitNumber each) number) (stands c each)) causes e cause (listed cause))
+
+  pub twelve-bits : number < 4096
+  twelve-bits =
+      ltb-true number 4096
+      (and-right bitsAre (ltb number 4096) (and-left _ (strongestIs true) (and-left _ (strongestIs false) (is-written c))))
+
+  pub order-strongest : (softly : Bool) → orderNumber (orderOf softly c) ≡ strongest softly number
+  order-strongest true =
+      eqb-true (orderNumber (orderOf true c)) (strongest true number)
+      (and-right (bitsAre && ltb number 4096) (strongestIs true) (and-left _ (strongestIs false) (is-written c)))
+  order-strongest false =
+      eqb-true (orderNumber (orderOf false c)) (strongest false number)
+      (and-right (bitsAre && ltb number 4096 && strongestIs true) (strongestIs false) (is-written c))
+
+-- ---- messages, and the offer
+
+-- three bits, and two
+pub three-bits : (a b c : Bool)
+    → let n = bitValue a 0 + bitValue b 1 + bitValue c 2 in
+    (bitOf 0 n ≡ a) × (bitOf 1 n ≡ b) × (bitOf 2 n ≡ c) × (n < 8)
+three-bits true true true = (refl, refl, refl, lit< tt)
+three-bits true true false = (refl, refl, refl, lit< tt)
+three-bits true false true = (refl, refl, refl, lit< tt)
+three-bits true false false = (refl, refl, refl, lit< tt)
+three-bits false true true = (refl, refl, refl, lit< tt)
+three-bits false true false = (refl, refl, refl, lit< tt)
+three-bits false false true = (refl, refl, refl, lit< tt)
+three-bits false false false = (refl, refl, refl, lit< tt)
+
+pub two-bits : (a b : Bool) → let n = bitValue a 0 + bitValue b 1 in (bitOf 0 n ≡ a) × (bitOf 1 n ≡ b) × (n ≤ 3)
+two-bits true true = (refl, refl, lit≤ tt)
+two-bits true false = (refl, refl, lit≤ tt)
+two-bits false true = (refl, refl, lit≤ tt)
+two-bits false false = (refl, refl, lit≤ tt)

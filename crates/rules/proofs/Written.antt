@@ -1,0 +1,369 @@
+-- What the bytes of a report say of the unit. Assumes nothing.
+use mathlib.Core.Path.{_≡_, refl, sym, _∙_, ap, ap₂, subst}
+use Prim.Native.Nat.{ℕ, _+_, min, _≤_, _<_}
+use native.Mathlib.Omega.{arith}
+use native.Mathlib.Decide.{decLt}
+use mathlib.Core.Bool.{Bool, true, false, cond, not, _&&_, _||_, false≢true, and-true, and-false, or-false}
+use mathlib.Core.Logic.{_⊎_, inl, inr}
+use mathlib.Core.List.{List, [], _∷_, _++_, map, zipWith, List·Memᴰ, Memᴰ·map, Memᴰ·of-map}
+use lib.Dec.{eqb, leb, ltb}
+use lib.ListN.{length, getD, drop}
+use borrow.Author.Tests.{eqb-true, eqb-false, ne-eqb, not-true, not-false, ltb-false, le-leb}
+use Rattle.laws.proofs.Lists.{_∈_, not-true-false}
+use Rattle.wire.specs.Numbers.{byteAt, number, highByte, lowByte}
+use Rattle.wire.proofs.Values.{bytes-read}
+use Rattle.pressure.specs.Reference.{dropOf}
+use Rattle.curve.specs.declared.Curve.{Curve}
+use Rattle.curve.specs.declared.Interval.{Interval}
+use Rattle.curve.specs.declared.Judged.{Judged}
+use Rattle.curve.specs.Deceleration.{levelOf}
+use Rattle.curve.specs.Intervals.{rankOf, shownOf, numberOf}
+use Rattle.curve.specs.Permitted.{permittedOf}
+use Rattle.curve.specs.Judging.{judgedOf}
+use Rattle.curve.specs.Places.{judgedAll}
+use Rattle.rules.specs.Numbers.{isAccepted, isRefused, isState, stateNumber, orderNumber, barNumber, modeNumber, bitNumber}
+use Rattle.rules.specs.Operands.{bitOf}
+use Rattle.rules.specs.Places.{anyOf, freeCurve}
+use Rattle.rules.specs.Speeds.{brakingOf, judgedNow, vmaxOf, permittedSpeed}
+use Rattle.rules.specs.Table.{causes, stands, orderOf, pressedFor, isReleasable, isDropped}
+use Rattle.rules.specs.Odometer.{isInsufficient, seenIn}
+use Rattle.rules.specs.Shows.{candidate, goesBefore, chosen, shownAs, barOf, modeOf}
+use Rattle.rules.specs.Reports.{bitValue, causesNumber, messagesOf, wouldDrop, offeredOf, isOver, shownFields, two, fields, reportWith, reportInDA, reportOutside, reportFor, reportOf}
+use Rattle.rules.specs.Commands.{withLast, remembered, acceptedOf}
+use Rattle.rules.specs.Runs.{Sent, answerTo, stateAfter, momentOf, stateAtEnd, noneAccepted, freshens}
+use Rattle.rules.specs.History.{Tells, stateIn, orderIn, causesIn, permittedIn, vmaxIn, idIn, shownIn, barIn, modeIn, messagesIn, offeredIn}
+use Rattle.rules.specs.History.{isIn, isSupervised, curveAt, Holds, brakingIn, intervalIn}
+use Rattle.rules.specs.Claims.{UpToSources}
+use Rattle.rules.specs.Columns.{isShort, IsFree}
+use Rattle.rules.specs.Written.{Largest, strongest, permits, UpToPermitted, Offers, WrittenInDA, ReportInDA, GoesFirst, shownAsIn, isPastPermitted, Shows, ShowsNone, ShownInDA, stateAndOrder, WrittenOutside, ReportOutsideDA, Tellings, MessagesAreWritten}
+use Rattle.rules.specs.declared.State.{State}
+use Rattle.rules.specs.declared.Cause.{Cause}
+use Rattle.rules.specs.declared.Causes.{Causes}
+use Rattle.rules.specs.declared.Seen.{Seen}
+use Rattle.rules.specs.declared.Candidate.{Candidate}
+use Rattle.rules.specs.declared.Last.{Last}
+use Rattle.rules.specs.declared.Stm.{Stm}
+use Rattle.rules.proofs.Answers.{after-accepted}
+use Rattle.rules.proofs.Once.{answer-writes-report}
+use Rattle.rules.proofs.Tests.{impossible, both, and-both, and-left, zip-self}
+use Rattle.rules.proofs.Told.{state-is}
+use Rattle.rules.proofs.Ordering.{doneBy}
+use Rattle.rules.proofs.Monotone.{any-in, any-from}
+use Rattle.rules.proofs.Claims.{not-lower-told, held-one, vmax-is-least, permitted-is-least, shown-is-first}
+use Rattle.rules.proofs.Columns.{listed, free-in, tells-by}
+use Rattle.rules.proofs.Bits.{bit-stands, twelve-bits, order-strongest, three-bits, two-bits}
+
+-- ---- the report that is written is the unit's
+
+-- what is remembered does not enter into it
+report-of-rest : (stm : Stm) (last : Last) (state : State) → reportFor state (withLast stm last) ≡ reportFor state stm
+unfolding reportInDA reportWith reportOutside seenIn
+report-of-rest stm last State.DE = refl
+report-of-rest stm last State.CS = refl
+report-of-rest stm last State.HS = refl
+report-of-rest stm last State.DA = refl
+report-of-rest stm last State.FA = refl
+
+remembered-report : (command : List ℕ) (stm : Stm) → remembered command stm .last .report ≡ reportOf (remembered command stm)
+unfolding remembered reportOf
+remembered-report command stm = sym (report-of-rest stm (remembered command stm .last) (stm .control .state))
+
+pub report-kept : (stm : Stm) (x : Sent) → isAccepted (answerTo stm x) ≡ true
+    → stateAfter stm x .last .report ≡ reportOf (stateAfter stm x)
+unfolding acceptedOf
+report-kept stm x e = rw (after-accepted stm x e) (remembered-report (x .command) (doneBy (x .command) stm))
+
+written-is : (stm : Stm) (x : Sent) → isAccepted (answerTo stm x) ≡ true → momentOf stm x .area ≡ reportOf (stateAfter stm x)
+written-is stm x e = answer-writes-report stm x (rw e) ∙ report-kept stm x e
+
+-- ---- in DA
+
+-- the four fields of the shown curve, or of none
+cond-four : (t : Bool) (a b c d a′ b′ c′ d′ : ℕ)
+    → cond t (a ∷ b ∷ c ∷ d ∷ []) (a′ ∷ b′ ∷ c′ ∷ d′ ∷ []) ≡ cond t a a′ ∷ cond t b b′ ∷ cond t c c′ ∷ cond t d d′ ∷ []
+cond-four true a b c d a′ b′ c′ d′ = refl
+cond-four false a b c d a′ b′ c′ d′ = refl
+
+module _ (stm : Stm) where
+  abbrev judged : List Judged
+  judged = judgedNow (stm .train) (stm .kept) (stm .track .curves)
+
+  abbrev vmax : ℕ
+  vmax = vmaxOf (stm .train) (stm .track)
+
+  abbrev shown : Candidate
+  shown = chosen (stm .track .curves) judged
+
+  abbrev fourth : (Candidate → ℕ) → ℕ → ℕ
+  fourth field none = cond (shown .judged .held) (field shown) none
+
+  abbrev modeOfShown : Candidate → ℕ
+  modeOfShown c = modeNumber (modeOf (isOver (stm .train) (stm .kept) c) (isInsufficient (stm .train) (stm .feedback)) (shownAs c))
+
+  -- the report, field by field
+  abbrev inDA : List ℕ
+  inDA =
+      3
+      ∷ orderNumber (orderOf (stm .train .softly) (stm .brakes .causes))
+      ∷ two (causesNumber (stm .brakes .causes)) (two (permittedSpeed vmax judged) (two vmax
+      (fourth (λ c. c .curve .id) 255
+      ∷ fourth (λ c. numberOf (shownAs c)) 0
+      ∷ fourth (λ c. barNumber (barOf (shownAs c))) 0
+      ∷ fourth modeOfShown 0
+      ∷ messagesOf (stm .brakes) (stm .feedback)
+      ∷ offeredOf (seenIn stm) (stm .brakes .causes)
+      ∷ [])))
+
+  da-fields : reportInDA stm ≡ inDA
+  unfolding reportInDA reportWith shownFields
+  da-fields =
+      ap (λ four. 3 ∷ orderNumber (orderOf (stm .train .softly) (stm .brakes .causes))
+      ∷ two (causesNumber (stm .brakes .causes)) (two (permittedSpeed vmax judged) (two vmax
+      (four ++ (messagesOf (stm .brakes) (stm .feedback) ∷ offeredOf (seenIn stm) (stm .brakes .causes) ∷ [])))))
+      (cond-four (shown .judged .held) (shown .curve .id) (numberOf (shownAs shown)) (barNumber (barOf (shownAs shown)))
+      (modeOfShown shown) 255 0 0 0)
+
+  pub in-da : isIn State.DA stm ≡ true → reportOf stm ≡ inDA
+  unfolding reportOf
+  in-da d = ap (λ state. reportFor state stm) (state-is State.DA (stm .control .state) d) ∙ da-fields
+
+  -- ---- the speeds
+
+  vmax-written : vmaxIn inDA ≡ vmax
+  vmax-written = bytes-read vmax _
+
+  permitted-written : permittedIn inDA ≡ permittedSpeed vmax judged
+  permitted-written = bytes-read (permittedSpeed vmax judged) _
+
+  causes-written : causesIn inDA ≡ causesNumber (stm .brakes .causes)
+  causes-written = bytes-read (causesNumber (stm .brakes .causes)) _
+
+  vmax-largest : Largest (UpToSources (stm .train) (stm .track)) vmax
+  vmax-largest = let l = vmax-is-least (stm .train) (stm .track) in record { holds = l .0; most = l .1 }
+
+  -- a curve among those judged
+  judged-in : {curve : Curve} → Holds (stm .track .curves) curve
+      → judgedOf (brakingOf (stm .train) (stm .kept .halka)) (stm .kept .speed) curve ∈ judged
+  unfolding judgedNow
+  judged-in holds = Memᴰ·map (judgedOf (brakingOf (stm .train) (stm .kept .halka)) (stm .kept .speed)) (holds .place)
+
+  judged-from : (j : Judged) → j ∈ judged → j .held ≡ true
+      → (curve : Curve) × Holds (stm .track .curves) curve × (j .permitted ≡ permits stm curve)
+  unfolding judgedNow judgedOf brakingOf levelOf
+  judged-from j m h =
+      let (curve, place, e) =
+          Memᴰ·of-map (judgedOf (brakingOf (stm .train) (stm .kept .halka)) (stm .kept .speed)) (stm .track .curves) m in
+      (curve, record { place = place; held = ap (λ k. k .held) e ∙ h }, sym (ap (λ k. k .permitted) e))
+
+  permitted-largest : Largest (UpToPermitted stm vmax) (permittedSpeed vmax judged)
+  unfolding judgedOf brakingOf levelOf
+  permitted-largest =
+      let l = permitted-is-least vmax judged in
+      record {
+        holds = record {
+          limit = l .0 .limit;
+          top = l .0 .top;
+          curves = λ curve holds. l .0 .curves _ (judged-in holds) (holds .held);
+        };
+        most = λ m u. l .1 m (record {
+          top = u .top;
+          limit = u .limit;
+          curves = λ j place held. let (curve, holds, e) = judged-from j place held in rw e (u .curves curve holds);
+        });
+      }
+
+  -- ---- the offer
+
+  abbrev seen : Seen
+  seen = seenIn stm
+
+  abbrev standing : Causes
+  standing = stm .brakes .causes
+
+  -- what a fresh LOSS would drop
+  abbrev LossDrops : Type 0
+  LossDrops =
+      (cause : Cause) × (stands standing cause ≡ true) × (bitNumber cause ≡ 10 → ⊥) × IsFree stm (stands standing) cause
+
+  not-text : (t : Bool) → cond t false true ≡ true → t ≡ false
+  not-text true e = impossible e
+  not-text false e = refl
+
+  loss-told : Tells (wouldDrop seen true false standing) LossDrops
+  unfolding isDropped
+  loss-told = (
+    λ e.
+        let (cause, m, t) = any-from (λ cause. stands standing cause && isDropped seen true false standing cause) causes e in
+        let p = both (stands standing cause) (pressedFor true false cause && isReleasable seen standing cause) t in
+        let q = both (pressedFor true false cause) (isReleasable seen standing cause) (p .1) in
+        (cause, p .0, eqb-false (bitNumber cause) 10 (not-text (eqb (bitNumber cause) 10) (q .0)),
+        free-in stm standing cause .0 (q .1)),
+    λ d.
+        let cause = d .0 in
+        any-in (λ each. stands standing each && isDropped seen true false standing each) causes (listed cause)
+        (and-both (stands standing cause) (isDropped seen true false standing cause) (d .1)
+        (and-both (pressedFor true false cause) (isReleasable seen standing cause)
+        (ap (λ t. cond t false true) (ne-eqb (bitNumber cause) 10 (d .2))) (free-in stm standing cause .1 (d .3)))),
+  )
+
+  text-told : wouldDrop seen false true standing ≡ stands standing Cause.Rolling
+  unfolding isDropped anyOf isReleasable
+  text-told = simp (and-false, and-true, or-false)
+
+  offers : Offers stm (offeredOf seen standing)
+  unfolding offeredOf
+  offers =
+      let bits = two-bits (wouldDrop seen true false standing) (wouldDrop seen false true standing) in
+      record { loss = tells-by (bits .0) loss-told; text = bits .1 ∙ text-told; most = bits .2 }
+
+  pub written-in-da : WrittenInDA stm inDA
+  written-in-da = record {
+    state = refl;
+    order = rw causes-written (order-strongest standing (stm .train .softly));
+    causes = λ cause. rw causes-written (bit-stands standing cause);
+    noOther = rw causes-written (twelve-bits standing);
+    vmax = rw vmax-written vmax-largest;
+    permitted = rw (vmax-written, permitted-written) permitted-largest;
+    offered = offers;
+  }
+
+pub report-in-da : ReportInDA
+report-in-da stm x e d = rw (written-is stm x e, in-da (stateAfter stm x) d) (written-in-da (stateAfter stm x))
+
+-- ---- the shown curve
+
+module _ (stm : Stm) where
+  -- a curve with what it says
+  abbrev says : Curve → Candidate
+  says curve = candidate curve (judgedOf (brakingOf (stm .train) (stm .kept .halka)) (stm .kept .speed) curve)
+
+  candidates : zipWith candidate (stm .track .curves) (judged stm) ≡ map says (stm .track .curves)
+  unfolding judgedNow
+  candidates = zip-self candidate (judgedOf (brakingOf (stm .train) (stm .kept .halka)) (stm .kept .speed)) (stm .track .curves)
+
+  says-interval : (curve : Curve) → says curve .judged .interval ≡ intervalIn stm curve
+  unfolding judgedOf brakingOf levelOf
+  says-interval curve = refl
+
+  says-permitted : (curve : Curve) → says curve .judged .permitted ≡ permits stm curve
+  unfolding judgedOf brakingOf levelOf
+  says-permitted curve = refl
+
+  -- of two, one that the other does not go before
+  goes-first : (curve other : Curve) → goesBefore (says other) (says curve) ≡ false → GoesFirst stm curve other
+  unfolding goesBefore judgedOf brakingOf levelOf
+  goes-first curve other e =
+      let rank = rankOf (intervalIn stm curve) in
+      let rank′ = rankOf (intervalIn stm other) in
+      let t = not-lower-told rank rank′ _ e in
+      elim (decLt rank′ rank) [
+        | yes l ↦ inl l
+        | no l ↦
+            let level : rank′ ≡ rank = omega (arith, t .0, l) in
+            let u = not-lower-told (permits stm other) (permits stm curve) (ltb (other .id) (curve .id)) (t .1 (sym level)) in
+            inr (level, elim (decLt (permits stm curve) (permits stm other)) [
+              | yes m ↦ inl m
+              | no m ↦
+                  let even : permits stm other ≡ permits stm curve = omega (arith, u .0, m) in
+                  inr (sym even, ltb-false (other .id) (curve .id) (u .1 even))
+            ])
+      ]
+
+  -- a field of the shown curve
+  field-of : (field : Candidate → ℕ) (none : ℕ) (one : Curve) → says one ≡ shown stm → shown stm .judged .held ≡ true
+      → fourth stm field none ≡ field (says one)
+  field-of field none one is held = ap₂ (λ t c. cond t (field c) none) held (sym is)
+
+  module _ (curve : Curve) (holds : Holds (stm .track .curves) curve) where
+    first-told : (other : Curve) → Holds (stm .track .curves) other
+        → (shown stm .judged .held ≡ true)
+        × List·Memᴰ (shown stm) (map says (stm .track .curves))
+        × (goesBefore (says other) (shown stm) ≡ false)
+    unfolding judgedOf
+    first-told other held =
+        rw candidates at
+        (shown-is-first (stm .track .curves) (judged stm) (says other) (rw candidates (Memᴰ·map says (held .place))) (held .held))
+
+    shows : Shows stm (inDA stm)
+    unfolding judgedOf isOver brakingOf levelOf isInsufficient dropOf shownAs
+    shows =
+        let told = first-told curve holds in
+        let (one, place, is) = Memᴰ·of-map says (stm .track .curves) (told .1) in
+        record {
+          curve = one;
+          holds = record { place = place; held = ap (λ c. c .judged .held) is ∙ told .0 };
+          first = λ other held. goes-first one other (ap (goesBefore (says other)) is ∙ first-told other held .2);
+          id = field-of (λ c. c .curve .id) 255 one is (told .0);
+          interval = field-of (λ c. numberOf (shownAs c)) 0 one is (told .0);
+          bar = field-of (λ c. barNumber (barOf (shownAs c))) 0 one is (told .0);
+          mode = field-of (modeOfShown stm) 0 one is (told .0);
+        }
+
+-- none is shown where none is held
+none-shown : (stm : Stm) → ((curve : Curve) → Holds (stm .track .curves) curve → ⊥) → shown stm .judged .held ≡ false
+unfolding chosen judgedOf
+none-shown stm none =
+    not-true-false (shown stm .judged .held)
+    (λ h.
+        let among = subst (λ all. shown stm ∈ all) (candidates stm) (held-one (zipWith candidate (stm .track .curves) (judged stm)) h) in
+        let (curve, place, is) = Memᴰ·of-map (says stm) (stm .track .curves) among in
+        none curve (record { place = place; held = ap (λ c. c .judged .held) is ∙ h }))
+
+shows-none : (stm : Stm) → shown stm .judged .held ≡ false → ShowsNone (inDA stm)
+shows-none stm e = record { id = rw e; interval = rw e; bar = rw e; mode = rw e }
+
+pub shown-in-da : ShownInDA
+shown-in-da stm x e d =
+    let after = stateAfter stm x in
+    rw (written-is stm x e, in-da after d)
+    (λ curve holds. shows after curve holds, λ none. shows-none after (none-shown after none))
+
+-- ---- outside DA
+
+module _ (stm : Stm) where
+  abbrev Outside : State → Type 0
+  Outside state = WrittenOutside state (reportFor state stm)
+
+  outside : (state : State) (order : ℕ) → stateAndOrder state (reportOutside state order stm)
+      → WrittenOutside state (reportOutside state order stm)
+  unfolding reportOutside
+  outside state order first = record {
+    first = first;
+    causes = bytes-read 0 _;
+    permitted = bytes-read 0 _;
+    vmax = bytes-read 0 _;
+    shown = record { id = refl; interval = refl; bar = refl; mode = refl };
+    offered = refl;
+  }
+
+  outside-da : (state : State) → isState State.DA state ≡ false → Outside state
+  unfolding reportOutside
+  outside-da State.DE d = outside State.DE 0 (refl, refl)
+  outside-da State.CS d = outside State.CS 0 (refl, refl)
+  outside-da State.HS d = outside State.HS 0 (refl, refl)
+  outside-da State.DA d = impossible (sym d)
+  outside-da State.FA d = outside State.FA 3 (refl, refl)
+
+pub report-outside-da : ReportOutsideDA
+unfolding reportOf
+report-outside-da stm x e d =
+    let after = stateAfter stm x in
+    rw (written-is stm x e) (outside-da after (after .control .state) d)
+
+-- ---- messages
+
+messages-in : (stm : Stm) (state : State) → messagesIn (reportFor state stm) ≡ messagesOf (stm .brakes) (stm .feedback)
+unfolding reportOutside
+messages-in stm State.DE = refl
+messages-in stm State.CS = refl
+messages-in stm State.HS = refl
+messages-in stm State.DA = ap messagesIn (da-fields stm)
+messages-in stm State.FA = refl
+
+pub messages-are-written : MessagesAreWritten
+unfolding reportOf messagesOf
+messages-are-written stm x e =
+    let after = stateAfter stm x in
+    let bits = three-bits (after .brakes .drift) (after .brakes .failed) (after .feedback .fault) in
+    rw (written-is stm x e, messages-in after (after .control .state))
+    (record { drift = bits .0; failed = bits .1; fault = bits .2; most = bits .3 })
