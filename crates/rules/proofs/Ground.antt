@@ -73,7 +73,7 @@ lost-both {a} {b} {c} {m} {n} p q = record {
 -- ---- a curve at its place, after one command
 
 -- a curve with its past noted, at its place
-abbrev notedIn : Train → Kept → Curve → Curve
+abbrev pub notedIn : Train → Kept → Curve → Curve
 notedIn train kept curve = notedAt curve (judgedOf (brakingOf train (kept .halka)) (kept .speed) curve .interval)
 
 noted-curves : (train : Train) (kept : Kept) (track : Track)
@@ -122,18 +122,15 @@ module _ (id place : ℕ) (stm : Stm) (held : curveAt place stm .held ≡ true) 
   lost-same : (curve : Curve) → curve ≡ curveAt place stm → HasLost 0 (curveAt place stm) curve
   lost-same curve e = subst (HasLost 0 (curveAt place stm)) (sym e) (lost-nothing (curveAt place stm) held)
 
-  given-lost : (new : Curve) → eqb (new .id) id ≡ false
-      → HasLost 0 (curveAt place stm) (getD (givenCurve new (stm .track .curves)) place freeCurve)
+  pub given-same : (new : Curve) → eqb (new .id) id ≡ false
+      → getD (givenCurve new (stm .track .curves)) place freeCurve ≡ curveAt place stm
   unfolding givenCurve
-  given-lost new e =
-      lost-same _ (given-stays isHeld idOf freeCurve refl new (λ old. withPast new (old .past)) (stm .track .curves) place held
-      (other-id (new .id) e))
+  given-same new e =
+      given-stays isHeld idOf freeCurve refl new (λ old. withPast new (old .past)) (stm .track .curves) place held (other-id (new .id) e)
 
-  ended-lost : (n : ℕ) → eqb n id ≡ false
-      → HasLost 0 (curveAt place stm) (getD (endedCurve n (stm .track .curves)) place freeCurve)
+  pub ended-same : (n : ℕ) → eqb n id ≡ false → getD (endedCurve n (stm .track .curves)) place freeCurve ≡ curveAt place stm
   unfolding endedCurve
-  ended-lost n e =
-      lost-same _ (others-stay isHeld idOf freeCurve refl n (λ old. freeCurve) (stm .track .curves) place (other-id n e))
+  ended-same n e = others-stay isHeld idOf freeCurve refl n (λ old. freeCurve) (stm .track .curves) place (other-id n e)
 
   -- the ground that a command takes
   abbrev takes : Code → List ℕ → ℕ
@@ -150,8 +147,8 @@ module _ (id place : ℕ) (stm : Stm) (held : curveAt place stm .held ≡ true) 
   command-lost Code.ChangeState s f n = rw (track-entered (stateOf (byteAt s 0)) stm f) (lost-nothing (curveAt place stm) held)
   command-lost Code.Odometer s f n =
       rw (reported-track (readingOf s) stm (stm .control .state)) (report-lost stm place held (stm .control .state) (readingOf s))
-  command-lost Code.NewCurve s f n = given-lost (curveOf s) n
-  command-lost Code.EndCurve s f n = ended-lost (byteAt s 0) n
+  command-lost Code.NewCurve s f n = lost-same _ (given-same (curveOf s) n)
+  command-lost Code.EndCurve s f n = lost-same _ (ended-same (byteAt s 0) n)
   command-lost Code.NewSection s f n = lost-nothing (curveAt place stm) held
   command-lost Code.EndSection s f n = lost-nothing (curveAt place stm) held
   command-lost Code.StopPassed s f n = lost-nothing (curveAt place stm) held
@@ -169,11 +166,11 @@ spared-first test stm x xs n =
     (λ e. second-fails (isAccepted (answerTo stm x)) (test stm (x .command)) e (not-true _ (t .0)), t .1)
 
 -- a command that leaves a curve alone
-abbrev leavesCurve : ℕ → Stm → List ℕ → Bool
+abbrev pub leavesCurve : ℕ → Stm → List ℕ → Bool
 leavesCurve id before command = freshens command || namesCurve id command
 
 module _ (id place : ℕ) where
-  one-lost : (stm : Stm) (x : Sent) (accepted : Bool) → isAccepted (answerTo stm x) ≡ accepted
+  pub one-lost : (stm : Stm) (x : Sent) (accepted : Bool) → isAccepted (answerTo stm x) ≡ accepted
       → curveAt place stm .held ≡ true → curveAt place stm .id ≡ id → (accepted ≡ true → leavesCurve id stm (x .command) ≡ false)
       → HasLost (cond (accepted && isMoving stm (x .command)) (movedOf (x .command)) 0) (curveAt place stm)
       (curveAt place (stateAfter stm x))

@@ -13,11 +13,13 @@ pub mod Fresh
 pub mod Columns
 pub mod Bits
 pub mod Written
+pub mod Stops
 pub mod Checked
 pub mod Timers
 pub mod Ground
 pub mod Readings
 pub mod SectionGround
+pub mod Past
 pub mod Claims
 pub mod Holding
 pub mod SoundTracks

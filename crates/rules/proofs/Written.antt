@@ -43,7 +43,7 @@ use Rattle.rules.specs.declared.Seen.{Seen}
 use Rattle.rules.specs.declared.Candidate.{Candidate}
 use Rattle.rules.specs.declared.Last.{Last}
 use Rattle.rules.specs.declared.Stm.{Stm}
-use Rattle.rules.proofs.Answers.{after-accepted}
+use Rattle.rules.proofs.Answers.{after-accepted, after-other}
 use Rattle.rules.proofs.Once.{answer-writes-report}
 use Rattle.rules.proofs.Tests.{impossible, both, and-both, and-left, zip-self}
 use Rattle.rules.proofs.Told.{state-is}
@@ -152,7 +152,7 @@ module _ (stm : Stm) where
   unfolding judgedNow judgedOf brakingOf levelOf
   judged-from j m h =
       let (curve, place, e) =
-          Memᴰ·of-map (judgedOf (brakingOf (stm .train) (stm .kept .halka)) (stm .kept .speed)) (stm .track .curves) m in
+      Memᴰ·of-map (judgedOf (brakingOf (stm .train) (stm .kept .halka)) (stm .kept .speed)) (stm .track .curves) m in
       (curve, record { place = place; held = ap (λ k. k .held) e ∙ h }, sym (ap (λ k. k .permitted) e))
 
   permitted-largest : Largest (UpToPermitted stm vmax) (permittedSpeed vmax judged)
@@ -195,9 +195,12 @@ module _ (stm : Stm) where
     λ e.
         let (cause, m, t) = any-from (λ cause. stands standing cause && isDropped seen true false standing cause) causes e in
         let p = both (stands standing cause) (pressedFor true false cause && isReleasable seen standing cause) t in
-        let q = both (pressedFor true false cause) (isReleasable seen standing cause) (p .1) in
-        (cause, p .0, eqb-false (bitNumber cause) 10 (not-text (eqb (bitNumber cause) 10) (q .0)),
-        free-in stm standing cause .0 (q .1)),
+        let q = both (pressedFor true false cause) (isReleasable seen standing cause) (p .1) in (
+          cause,
+          p .0,
+          eqb-false (bitNumber cause) 10 (not-text (eqb (bitNumber cause) 10) (q .0)),
+          free-in stm standing cause .0 (q .1),
+        ),
     λ d.
         let cause = d .0 in
         any-in (λ each. stands standing each && isDropped seen true false standing each) causes (listed cause)
@@ -261,12 +264,15 @@ module _ (stm : Stm) where
         | no l ↦
             let level : rank′ ≡ rank = omega (arith, t .0, l) in
             let u = not-lower-told (permits stm other) (permits stm curve) (ltb (other .id) (curve .id)) (t .1 (sym level)) in
-            inr (level, elim (decLt (permits stm curve) (permits stm other)) [
-              | yes m ↦ inl m
-              | no m ↦
-                  let even : permits stm other ≡ permits stm curve = omega (arith, u .0, m) in
-                  inr (sym even, ltb-false (other .id) (curve .id) (u .1 even))
-            ])
+            inr (
+              level,
+              elim (decLt (permits stm curve) (permits stm other)) [
+                | yes m ↦ inl m
+                | no m ↦
+                    let even : permits stm other ≡ permits stm curve = omega (arith, u .0, m) in
+                    inr (sym even, ltb-false (other .id) (curve .id) (u .1 even))
+              ],
+            )
       ]
 
   -- a field of the shown curve
@@ -305,9 +311,9 @@ unfolding chosen judgedOf
 none-shown stm none =
     not-true-false (shown stm .judged .held)
     (λ h.
-        let among = subst (λ all. shown stm ∈ all) (candidates stm) (held-one (zipWith candidate (stm .track .curves) (judged stm)) h) in
-        let (curve, place, is) = Memᴰ·of-map (says stm) (stm .track .curves) among in
-        none curve (record { place = place; held = ap (λ c. c .judged .held) is ∙ h }))
+    let among = subst (λ all. shown stm ∈ all) (candidates stm) (held-one (zipWith candidate (stm .track .curves) (judged stm)) h) in
+    let (curve, place, is) = Memᴰ·of-map (says stm) (stm .track .curves) among in
+    none curve (record { place = place; held = ap (λ c. c .judged .held) is ∙ h }))
 
 shows-none : (stm : Stm) → shown stm .judged .held ≡ false → ShowsNone (inDA stm)
 shows-none stm e = record { id = rw e; interval = rw e; bar = rw e; mode = rw e }
@@ -349,6 +355,26 @@ unfolding reportOf
 report-outside-da stm x e d =
     let after = stateAfter stm x in
     rw (written-is stm x e) (outside-da after (after .control .state) d)
+
+-- ---- the offer in a unit's report
+
+pub offered-in-da : (stm : Stm) → isIn State.DA stm ≡ true → Offers stm (offeredIn (reportOf stm))
+offered-in-da stm d = rw (in-da stm d) (offers stm)
+
+pub offered-outside : (stm : Stm) → isIn State.DA stm ≡ false → offeredIn (reportOf stm) ≡ 0
+unfolding reportOf
+offered-outside stm d = outside-da stm (stm .control .state) d .offered
+
+-- the report that is kept, after any list that follows an accepted command
+pub report-at-end : (stm : Stm) (xs : List Sent) → stm .last .report ≡ reportOf stm
+    → stateAtEnd stm xs .last .report ≡ reportOf (stateAtEnd stm xs)
+unfolding stateAtEnd
+report-at-end stm [] h = h
+report-at-end stm (x ∷ xs) h = report-at-end (stateAfter stm x) xs (kept (isAccepted (answerTo stm x)) refl)
+  where
+    kept : (accepted : Bool) → isAccepted (answerTo stm x) ≡ accepted → stateAfter stm x .last .report ≡ reportOf (stateAfter stm x)
+    kept true e = report-kept stm x e
+    kept false e = rw (after-other stm x e) h
 
 -- ---- messages
 

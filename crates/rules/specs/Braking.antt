@@ -102,33 +102,3 @@ NoneDroppedWithoutPress =
     → noneAccepted (λ before command. freshens command) stm xs ≡ true
     → noneAccepted (pressesFor cause) stm xs ≡ true
     → stands (stateAtEnd stm xs .brakes .causes) cause ≡ true
-
--- "halted since": after its command bit 5, or bit 8, stands with no halt noted,
-abbrev pub StopNotesAfresh : Type 0
-StopNotesAfresh =
-    (stm : Stm) (x : Sent)
-    → isAccepted (answerTo stm x) ≡ true → isOf Code.StopPassed (x .command) ≡ true
-    → (byteAt (operandsOf (x .command)) 0 ≡ 0
-    → (stands (stateAfter stm x .brakes .causes) Cause.AimedStop ≡ true) × (stateAfter stm x .brakes .since .aimed ≡ false))
-    × (byteAt (operandsOf (x .command)) 0 ≡ 2
-    → (stands (stateAfter stm x .brakes .causes) Cause.Landslide ≡ true) × (stateAfter stm x .brakes .since .landslide ≡ false))
-
--- and stands until a report with speed 0 and moved 0 is accepted
-abbrev pub halts : Stm → List ℕ → Bool
-halts stm command = isOf Code.Odometer command && (eqb (readingIn command .speed) 0 && eqb (readingIn command .moved) 0)
-
-abbrev pub StopWantsHalt : Type 0
-StopWantsHalt =
-    (stm : Stm) (xs : List Sent)
-    → stands (stm .brakes .causes) Cause.AimedStop ≡ true → stm .brakes .since .aimed ≡ false
-    → noneAccepted (λ before command. freshens command) stm xs ≡ true
-    → noneAccepted halts stm xs ≡ true
-    → stands (stateAtEnd stm xs .brakes .causes) Cause.AimedStop ≡ true
-
-abbrev pub LandslideWantsHalt : Type 0
-LandslideWantsHalt =
-    (stm : Stm) (xs : List Sent)
-    → stands (stm .brakes .causes) Cause.Landslide ≡ true → stm .brakes .since .landslide ≡ false
-    → noneAccepted (λ before command. freshens command) stm xs ≡ true
-    → noneAccepted halts stm xs ≡ true
-    → stands (stateAtEnd stm xs .brakes .causes) Cause.Landslide ≡ true

@@ -18,7 +18,7 @@ pub mod Once
 pub mod Braking
 pub mod Columns
 pub mod Timers
-pub mod Since
+pub mod Stops
 pub mod Rolling
 pub mod Ground
 pub mod Held
