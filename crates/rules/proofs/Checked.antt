@@ -4,6 +4,7 @@ use Prim.Native.Nat.{ℕ}
 use mathlib.Core.Bool.{Bool, true, false, cond, not, _&&_, _||_, or-false, or-assoc, and-false, and-true}
 use mathlib.Core.Logic.{_⊎_, inl, inr}
 use mathlib.Core.List.{List}
+use borrow.Author.Tests.{not-false}
 use Rattle.wire.specs.Numbers.{byteAt}
 use Rattle.pressure.specs.Reference.{dropOf}
 use Rattle.rules.specs.Numbers.{codeOf, isState, isOrder, isAccepted}
@@ -174,19 +175,23 @@ module _ (stm : Stm) (x : Sent) (e : isAccepted (answerTo stm x) ≡ true) (u : 
 
   -- and the state
   ended-state : (failed : Bool) (s : Stm) (released : Brakes) → isIn State.DA s ≡ true
-      → isIn State.FA (ended failed s released) ≡ failed
-  ended-state true s released da = refl
-  ended-state false s released da = ap (isState State.FA) (state-is State.DA (s .control .state) da)
+      → (isIn State.FA (ended failed s released) ≡ failed) × (isIn State.DA (ended failed s released) ≡ not failed)
+  ended-state true s released da = (refl, refl)
+  ended-state false s released da = (ap (isState State.FA) (state-is State.DA (s .control .state) da), da)
 
-  fa-added : isIn State.FA after ≡ added .failed
+  state-added : (isIn State.FA after ≡ added .failed) × (isIn State.DA after ≡ not (added .failed))
   unfolding remembered endedAt
-  fa-added =
+  state-added =
       let da = both (isReport (x .command)) (isIn State.DA stm) u .1 in
       rw (after-report stm x e u)
       (ended-state (added .failed) (addedAt stm (x .command)) (releasedAt stm (x .command)) (rw control-added da))
 
   pub fa-after : isIn State.FA after ≡ after .brakes .failed
-  fa-after = fa-added ∙ added-failed ∙ sym failed-after
+  fa-after = state-added .0 ∙ added-failed ∙ sym failed-after
+
+  -- it is in DA or in FA
+  pub fa-else : isIn State.DA after ≡ false → isIn State.FA after ≡ true
+  fa-else d = state-added .0 ∙ not-false (added .failed) (sym (state-added .1) ∙ d)
 
   -- the drop of the promises
   pub drop-is : dropped ≡ hasDrop after

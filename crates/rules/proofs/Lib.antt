@@ -14,6 +14,7 @@ pub mod Columns
 pub mod Bits
 pub mod Written
 pub mod Stops
+pub mod Rolling
 pub mod Checked
 pub mod Timers
 pub mod Ground
