@@ -61,7 +61,8 @@ module _ {curve curve′ : Curve} (stricter : Stricter curve curve′) where
 
   decelerates-less : (level level′ : ℕ) → level′ ≤ level → decelerationOf level′ (curve′ .gradient) ≤ decelerationOf level (curve .gradient)
   unfolding decelerationOf
-  decelerates-less level level′ h = rw (stricter .gradient) (level-kept (curve .gradient .direction) level level′ (curve .gradient .size) h)
+  decelerates-less level level′ h =
+      rw (stricter .gradient level′) (level-kept (curve .gradient .direction) level level′ (curve .gradient .size) h)
 
   target-no-higher : targetOf curve′ ≤ targetOf curve
   unfolding targetOf
@@ -124,7 +125,7 @@ f-without-margin-is-e curve level v =
 
 -- a curve is as strict as itself
 pub same : (curve : Curve) → Stricter curve curve
-same curve = record { kind = refl; gradient = refl; distance = le-refl _; speed = le-refl _ }
+same curve = record { kind = refl; gradient = λ level. refl; distance = le-refl _; speed = le-refl _ }
 
 pub longer-lead-is-reached : LongerLeadIsReached
 longer-lead-is-reached curve level v T T′ = stays-reached curve curve level level v v T T′ (same curve) (le-refl level) (le-refl v)

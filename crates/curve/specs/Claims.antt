@@ -2,6 +2,7 @@
 use mathlib.Core.Path.{_≡_}
 use Prim.Native.Nat.{ℕ, _*_, _≤_, _<_, min}
 use mathlib.Core.Bool.{true, false}
+use Rattle.curve.specs.Deceleration.{decelerationOf}
 use Rattle.curve.specs.Boundary.{isReached, isReachedF, isReachedAtKmh}
 use Rattle.curve.specs.Intervals.{intervalOf, rankOf}
 use Rattle.curve.specs.Permitted.{permittedOf}
@@ -24,10 +25,11 @@ FWithoutMarginIsE = (curve : Curve) (level v : ℕ) → isReachedF curve level 0
 
 -- ---- stricter figures
 
--- the second curve has a distance and a target or release speed no higher
+-- the second curve has a distance and a target or release speed no higher, and a gradient that does the same to every deceleration:
+-- 0 up and 0 down are the same track
 pub record Stricter (curve curve′ : Curve) : Type 0 where
   pub kind : curve′ .kind ≡ curve .kind
-  pub gradient : curve′ .gradient ≡ curve .gradient
+  pub gradient : (level : ℕ) → decelerationOf level (curve′ .gradient) ≡ decelerationOf level (curve .gradient)
   pub distance : curve′ .distance ≤ curve .distance
   pub speed : curve′ .speed ≤ curve .speed
 

@@ -25,7 +25,7 @@ compared = record {
   train = trains 700 600 30 13 (le-by-compare 600 700 tt);
   track =
       one-curve _ _ 15 places _ false refl refl refl
-      (record { kind = refl; gradient = refl; distance = le-by-compare 25000 80000 tt; speed = le-by-compare 30 40 tt });
+      (record { kind = refl; gradient = λ level. refl; distance = le-by-compare 25000 80000 tt; speed = le-by-compare 30 40 tt });
   brakes = refl;
   feedback = refl;
   kept = refl;
@@ -67,6 +67,8 @@ brakes-harder = record {
   emergency = meets .emergency;
   gear = meets .gear;
   stops = meets .stops;
+  answers = refl;
+  answers′ = refl;
   first = refl;
   second = refl;
 }

@@ -8,7 +8,7 @@ use Rattle.wire.specs.Numbers.{byteAt}
 use Rattle.curve.specs.declared.Curve.{Curve}
 use Rattle.curve.specs.Intervals.{rankOf}
 use Rattle.curve.specs.Claims.{Stricter}
-use Rattle.rules.specs.Numbers.{isRefused}
+use Rattle.rules.specs.Numbers.{answerNumber, isRefused}
 use Rattle.rules.specs.Operands.{codeByte, numberOf, operandsOf, twoAt, bitOf}
 use Rattle.rules.specs.Places.{holdsCurve}
 use Rattle.rules.specs.Table.{stands}
@@ -170,12 +170,15 @@ StopsAreNeeded = ClaimGiven true true true true true false → ⊥
 
 -- ---- the claim is not empty
 
--- the orders written at the moments of a run
+-- the answers of a run, by 01's numbers, and the orders written at its moments
+abbrev pub answersIn : List Moment → List ℕ
+answersIn ms = map (λ m. answerNumber (m .answer)) ms
+
 abbrev pub ordersIn : List Moment → List ℕ
 ordersIn ms = map (λ m. orderIn (m .area)) ms
 
--- two units that meet all that is presumed, and lists of a report, its repeat and a further report, by which the second is ordered
--- to brake and the first is not
+-- two units that meet all that is presumed, and lists of a report, its repeat and a further report, which both answer so, by which
+-- the second is ordered to brake and the first is not
 pub record BrakesHarder : Type 0 where
   pub u : Stm
   pub w : Stm
@@ -189,5 +192,7 @@ pub record BrakesHarder : Type 0 where
   pub emergency : Both NoEmergencyFault (moments u xs) (moments w ys)
   pub gear : Both InGear xs ys
   pub stops : UnexpectedStopAlike u w
+  pub answers : answersIn (moments u xs) ≡ (0 ∷ 100 ∷ 0 ∷ [])
+  pub answers′ : answersIn (moments w ys) ≡ (0 ∷ 100 ∷ 0 ∷ [])
   pub first : ordersIn (moments u xs) ≡ (0 ∷ 0 ∷ 0 ∷ [])
   pub second : ordersIn (moments w ys) ≡ (0 ∷ 0 ∷ 3 ∷ [])
