@@ -3,7 +3,7 @@ use mathlib.Core.Path.{_≡_, refl, sym, _∙_, ap, subst}
 use Prim.Native.Nat.{ℕ, _+_, _*_, _≤_, _<_}
 use native.Mathlib.Nat.{le-trans}
 use native.Mathlib.Omega.{arith}
-use mathlib.Core.Bool.{Bool, true, false, cond, not, _&&_, _||_, false≢true}
+use mathlib.Core.Bool.{Bool, true, false, cond, not, _&&_, _||_, false≢true, and-false, and-true, or-false}
 use mathlib.Core.Logic.{_⊎_, inl, inr}
 use mathlib.Core.List.{List, [], _∷_, map}
 use lib.Dec.{leb, ltb, eqb, lit<, lit≤}
@@ -18,17 +18,19 @@ use Rattle.curve.specs.declared.Interval.{Interval}
 use Rattle.curve.specs.Intervals.{intervalOf, rankOf}
 use Rattle.curve.specs.Judging.{isFastFor, isFast, brakesAt, judgedOf}
 use Rattle.curve.specs.Places.{anyBrakes}
-use Rattle.rules.specs.Numbers.{bitNumber, isAccepted}
+use Rattle.wire.specs.Numbers.{byteAt}
+use Rattle.rules.specs.Numbers.{bitNumber, isAccepted, codeOf}
+use Rattle.rules.specs.Operands.{codeByte, operandsOf}
 use Rattle.rules.specs.Places.{anyOf, allOf}
 use Rattle.rules.specs.Speeds.{brakingOf, judgedNow, vmaxOf}
-use Rattle.rules.specs.Table.{causes, stands, curveOrders, orderedAt, isSlow, releasableWhen, othersReleasable, isReleasable, addedCauses}
+use Rattle.rules.specs.Table.{causes, stands, curveOrders, orderedAt, orderedBy, isSlow, releasableWhen, othersReleasable, isReleasable, addedCauses}
 use Rattle.rules.specs.Checks.{isDrop}
 use Rattle.rules.specs.Releases.{serviceFails}
 use Rattle.rules.specs.Odometer.{isInsufficient, seenWith, seenOf, seenIn}
 use Rattle.rules.specs.Runs.{Sent, answerTo, stateAfter}
 use Rattle.rules.specs.History.{Tells, isSupervised, Holds, brakingIn, intervalIn}
 use Rattle.rules.specs.Braking.{measuredAt, seenAt, orderedNow, releasableNow}
-use Rattle.rules.specs.Columns.{vmaxIs, IsFast, BrakesFrom, isShort, CurveOrders, Orders, OrderedAtReport, FreedWhen, IsFree, ReleasableAtReport}
+use Rattle.rules.specs.Columns.{vmaxIs, IsFast, BrakesFrom, isShort, CurveOrders, Orders, OrderedAtReport, commandOrders, FreedWhen, IsFree, ReleasableAtReport, OrderedByCommand}
 use Rattle.rules.specs.declared.Cause.{Cause}
 use Rattle.rules.specs.declared.Causes.{Causes}
 use Rattle.rules.specs.declared.Roll.{Roll}
@@ -38,7 +40,7 @@ use Rattle.rules.proofs.Tests.{impossible, both, and-both, either, or-l
 use Rattle.rules.proofs.Claims.{all-holds}
 use Rattle.rules.proofs.Monotone.{any-in, any-from}
 use Rattle.rules.proofs.TwoSpeeds.{brakes, any-brakes-is}
-use Rattle.rules.proofs.Ordering.{same-tests, stands-added, since-after}
+use Rattle.rules.proofs.Ordering.{same-tests, stands-added, since-after, others-drop-nothing}
 use Rattle.rules.proofs.After.{train-measured, track-measured, feedback-measured, kept-measured}
 
 -- ---- tests that tell
@@ -343,3 +345,24 @@ ordered-at-report stm x e u = ordered-at stm x e u
 
 pub releasable-at-report : ReleasableAtReport
 releasable-at-report stm x cause e u = releasable-at stm x e u cause
+
+-- ---- at another command
+
+by-command : (command : List ℕ) (cause : Cause)
+    → orderedBy (codeOf (codeByte command)) (byteAt (operandsOf command) 0) cause ≡ commandOrders command (bitNumber cause)
+by-command command Cause.Overspeed = simp (and-false)
+by-command command Cause.EmergencyOverspeed = simp (and-false)
+by-command command Cause.CurveFull = simp (and-false)
+by-command command Cause.CurveSoft = simp (and-false)
+by-command command Cause.CurveEmergency = simp (and-false)
+by-command command Cause.AimedStop = simp (and-false, and-true, or-false)
+by-command command Cause.UnexpectedStop = simp (and-false, and-true, or-false)
+by-command command Cause.UnexpectedSpeed = simp (and-false, and-true, or-false)
+by-command command Cause.Landslide = simp (and-false, and-true, or-false)
+by-command command Cause.BaliseFault = simp (and-false, and-true, or-false)
+by-command command Cause.Rolling = simp (and-false)
+by-command command Cause.ServiceFault = simp (and-false)
+
+pub ordered-by-command : OrderedByCommand
+ordered-by-command stm x cause e u f =
+    others-drop-nothing stm x cause e u f ∙ ap (λ t. stands (stm .brakes .causes) cause || t) (by-command (x .command) cause)

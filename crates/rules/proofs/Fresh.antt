@@ -17,7 +17,7 @@ use Rattle.rules.specs.Odometer.{withState, withBrakes, seenIn, moves, m
 use Rattle.rules.specs.Commands.{freshFeedback, freshKept, freshWith, entered, stopped, carriedOut}
 use Rattle.rules.specs.Runs.{Sent, answerTo, stateAfter, isOf}
 use Rattle.rules.specs.History.{firstOperand, isIn, isSupervised, curveAt, sectionAt}
-use Rattle.rules.specs.Fresh.{HoldsNothing, IsFresh, StartIsFresh, EnteringCS, stateNamed, StateIsEntered, StateStays}
+use Rattle.rules.specs.Fresh.{HoldsNothing, IsFresh, StartIsFresh, EnteringCS, StateNamed, StateIsEntered, StateStays}
 use Rattle.rules.specs.declared.Code.{Code}
 use Rattle.rules.specs.declared.State.{State}
 use Rattle.rules.specs.declared.Cause.{Cause}
@@ -81,6 +81,7 @@ start-is-fresh stm x e c =
         speed = rw kept;
         loss = rw kept;
         text = rw kept;
+        halka = rw kept;
       },
       rw control,
       part-by stm x e (λ s. s .train) Code.Start c (train-after stm x e),
@@ -127,7 +128,7 @@ entered-state State.HS stm = refl
 entered-state State.DA stm = refl
 entered-state State.FA stm = refl
 
-named : (n : ℕ) → n ≤ 4 → stateNamed n (stateOf n)
+named : (n : ℕ) → n ≤ 4 → StateNamed n (stateOf n)
 unfolding stateOf
 named zero h = refl
 named (suc zero) h = refl

@@ -3,6 +3,7 @@ pub mod Told
 pub mod Answers
 pub mod Repeats
 pub mod Once
+pub mod Same
 pub mod Ordering
 pub mod Standing
 pub mod AtPlaces

@@ -25,7 +25,7 @@ use Rattle.rules.proofs.Answers.{passed}
 
 -- ---- 100 is for repeats
 
-abbrev isAgain : Answer → Bool
+abbrev pub isAgain : Answer → Bool
 isAgain answer = eqb (answerNumber answer) 100
 
 -- a list of which no rule that applies answers 100 does not answer it
@@ -65,7 +65,7 @@ other-again : (accepted again : Bool) → accepted ≡ false → not (accepted |
 other-again true again e h = absurd (false≢true (sym e))
 other-again false again e h = not-false again h
 
-repeated : (stm : Stm) (x : Sent) → isAccepted (answerTo stm x) ≡ false → isRefused (answerTo stm x) ≡ false
+pub repeated : (stm : Stm) (x : Sent) → isAccepted (answerTo stm x) ≡ false → isRefused (answerTo stm x) ≡ false
     → isRepeat stm (x .command) ≡ true
 repeated stm x e h = by (isRepeat stm (x .command)) refl
   where

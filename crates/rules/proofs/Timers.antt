@@ -19,7 +19,7 @@ use Rattle.rules.specs.Releases.{freshBrakes, serviceFails, emergencyFai
 use Rattle.rules.specs.Runs.{Sent, answerTo, stateAfter, stateAtEnd, isOf, ordersCS, freshens}
 use Rattle.rules.specs.History.{isIn, isSupervised, collected, standsThrough}
 use Rattle.rules.specs.Braking.{measuredAt, orderedNow}
-use Rattle.rules.specs.Timers.{isOrdered, isEmergency, hasDrop, dropsOver, Stands, failsWith, ServiceFaultAtLimit, EmergencyFaultAtLimit, NoFaultWithoutOrder, DriftIsShown, FaultsStay}
+use Rattle.rules.specs.Timers.{isOrdered, isEmergency, hasDrop, dropsOver, OrderStands, failsWith, ServiceFaultAtLimit, EmergencyFaultAtLimit, NoFaultWithoutOrder, DriftIsShown, FaultsStay}
 use Rattle.rules.specs.declared.Code.{Code}
 use Rattle.rules.specs.declared.State.{State}
 use Rattle.rules.specs.declared.Cause.{Cause}

@@ -35,7 +35,7 @@ use Rattle.rules.specs.History.{Tells, stateIn, orderIn, causesIn, permi
 use Rattle.rules.specs.History.{isIn, isSupervised, curveAt, Holds, brakingIn, intervalIn}
 use Rattle.rules.specs.Claims.{UpToSources}
 use Rattle.rules.specs.Columns.{isShort, IsFree}
-use Rattle.rules.specs.Written.{Largest, strongest, permits, UpToPermitted, Offers, WrittenInDA, ReportInDA, GoesFirst, shownAsIn, isPastPermitted, Shows, ShowsNone, ShownInDA, stateAndOrder, WrittenOutside, ReportOutsideDA, Tellings, MessagesAreWritten}
+use Rattle.rules.specs.Written.{Largest, strongest, permits, UpToPermitted, Offers, WrittenInDA, ReportInDA, GoesFirst, shownAsIn, isPastPermitted, Shows, ShowsNone, ShownInDA, StateAndOrder, WrittenOutside, ReportOutsideDA, MessagesTell, MessagesAreWritten}
 use Rattle.rules.specs.declared.State.{State}
 use Rattle.rules.specs.declared.Cause.{Cause}
 use Rattle.rules.specs.declared.Causes.{Causes}
@@ -330,7 +330,7 @@ module _ (stm : Stm) where
   abbrev Outside : State → Type 0
   Outside state = WrittenOutside state (reportFor state stm)
 
-  outside : (state : State) (order : ℕ) → stateAndOrder state (reportOutside state order stm)
+  outside : (state : State) (order : ℕ) → StateAndOrder state (reportOutside state order stm)
       → WrittenOutside state (reportOutside state order stm)
   unfolding reportOutside
   outside state order first = record {

@@ -2,9 +2,10 @@
 -- speed, VMAX, curves, drop and notes. Bits 10 and 11 are ordered by what came before: see Rolling and Timers. Proved in proofs/.
 use mathlib.Core.Path.{_≡_}
 use Prim.Native.Nat.{ℕ, _+_, _*_, _≤_, _<_}
-use mathlib.Core.Bool.{Bool, true, false, _||_}
+use mathlib.Core.Bool.{Bool, true, false, _&&_, _||_}
 use mathlib.Core.Logic.{_⊎_}
 use mathlib.Core.List.{List}
+use lib.Dec.{eqb}
 use lib.Ieee.{lt}
 use Rattle.pressure.specs.Convert.{kPa}
 use Rattle.curve.specs.declared.Kind.{Kind}
@@ -14,9 +15,10 @@ use Rattle.curve.specs.Intervals.{rankOf}
 use Rattle.rules.specs.Numbers.{bitNumber, isAccepted}
 use Rattle.rules.specs.Speeds.{vmaxOf}
 use Rattle.rules.specs.Table.{stands}
-use Rattle.rules.specs.Runs.{Sent, answerTo, stateAfter}
-use Rattle.rules.specs.History.{Tells, isSupervised, Holds, intervalIn, dropIn}
+use Rattle.rules.specs.Runs.{Sent, answerTo, stateAfter, isOf, freshens}
+use Rattle.rules.specs.History.{Tells, isSupervised, passesStop, Holds, intervalIn, dropIn}
 use Rattle.rules.specs.Braking.{orderedNow, releasableNow}
+use Rattle.rules.specs.declared.Code.{Code}
 use Rattle.rules.specs.declared.Cause.{Cause}
 use Rattle.rules.specs.declared.Stm.{Stm}
 
@@ -61,6 +63,22 @@ OrderedAtReport =
     (stm : Stm) (x : Sent)
     → isAccepted (answerTo stm x) ≡ true → isSupervised stm (x .command) ≡ true
     → Orders (orderedNow stm (x .command)) (stateAfter stm x)
+
+-- "command 30, 0", "30, 1" for bits 6 and 7, "30, 2", "32"
+abbrev pub commandOrders : List ℕ → ℕ → Bool
+commandOrders command bit =
+    passesStop 0 command && eqb bit 5
+    || passesStop 1 command && (eqb bit 6 || eqb bit 7)
+    || passesStop 2 command && eqb bit 8
+    || isOf Code.BaliseError command && eqb bit 9
+
+-- every other command, but for a start and CS, adds these and drops none
+abbrev pub OrderedByCommand : Type 0
+OrderedByCommand =
+    (stm : Stm) (x : Sent) (cause : Cause)
+    → isAccepted (answerTo stm x) ≡ true → isSupervised stm (x .command) ≡ false → freshens (x .command) ≡ false
+    → stands (stateAfter stm x .brakes .causes) cause
+    ≡ (stands (stm .brakes .causes) cause || commandOrders (x .command) (bitNumber cause))
 
 -- ---- "Releasable when"
 

@@ -45,6 +45,7 @@ pub record IsFresh (stm : Stm) : Type 0 where
   pub speed : stm .kept .speed ≡ 0
   pub loss : stm .kept .loss ≡ true
   pub text : stm .kept .text ≡ true
+  pub halka : stm .kept .halka ≡ true
 
 abbrev pub StartIsFresh : Type 0
 StartIsFresh =
@@ -65,18 +66,18 @@ EnteringCS =
     → (stateAfter stm x .track ≡ stm .track) × (stateAfter stm x .brakes ≡ stm .brakes))
 
 -- "0 DE, 1 CS, 2 HS, 3 DA, 4 FA": the state is the one that is ordered,
-abbrev pub stateNamed : ℕ → State → Type 0
-stateNamed n State.DE = n ≡ 0
-stateNamed n State.CS = n ≡ 1
-stateNamed n State.HS = n ≡ 2
-stateNamed n State.DA = n ≡ 3
-stateNamed n State.FA = n ≡ 4
+abbrev pub StateNamed : ℕ → State → Type 0
+StateNamed n State.DE = n ≡ 0
+StateNamed n State.CS = n ≡ 1
+StateNamed n State.HS = n ≡ 2
+StateNamed n State.DA = n ≡ 3
+StateNamed n State.FA = n ≡ 4
 
 abbrev pub StateIsEntered : Type 0
 StateIsEntered =
     (stm : Stm) (x : Sent)
     → isAccepted (answerTo stm x) ≡ true → isOf Code.ChangeState (x .command) ≡ true
-    → stateNamed (firstOperand (x .command)) (stateAfter stm x .control .state)
+    → StateNamed (firstOperand (x .command)) (stateAfter stm x .control .state)
 
 -- and no other command changes it, but for a start and a report in DA that shows NÖDBROMSFEL
 abbrev pub StateStays : Type 0

@@ -34,6 +34,15 @@ SentAgainIsAgain =
     → isAccepted (answerTo stm x) ≡ true → y .command ≡ x .command → length (y .area) ≡ reportLength
     → momentOf (stateAfter stm x) y ≡ record { answer = Answer.Again; area = momentOf stm x .area; stm = stateAfter stm x }
 
+-- and no other is: "number and bytes are those of the last accepted command", whatever was refused since
+abbrev pub AgainIsTheLast : Type 0
+AgainIsTheLast =
+    (stm : Stm) (x : Sent) (ys : List Sent) (y : Sent)
+    → isAccepted (answerTo stm x) ≡ true
+    → noneAccepted (λ before command. true) (stateAfter stm x) ys ≡ true
+    → answerTo (stateAtEnd (stateAfter stm x) ys) y ≡ Answer.Again
+    → y .command ≡ x .command
+
 -- ---- any list of commands
 
 -- the numbers of the accepted commands

@@ -52,7 +52,7 @@ abbrev pub dropsOver : Stm → List Sent → List Bool
 dropsOver stm xs = collected isSupervised (λ before x. hasDrop (stateAfter before x)) stm xs
 
 -- an order begins at an accepted command x and stands through ys; z is a further report in DA
-pub record Stands (ordered : Stm → Bool) (stm : Stm) (x : Sent) (ys : List Sent) (z : Sent) : Type 0 where
+pub record OrderStands (ordered : Stm → Bool) (stm : Stm) (x : Sent) (ys : List Sent) (z : Sent) : Type 0 where
   pub accepted : isAccepted (answerTo stm x) ≡ true
   pub before : ordered stm ≡ false
   pub through : standsThrough ordered (stateAfter stm x) ys ≡ true
@@ -67,7 +67,7 @@ failsWith limit drops now = eqb (length drops + 1) limit && not (now || anyOf (�
 abbrev pub ServiceFaultAtLimit : Type 0
 ServiceFaultAtLimit =
     (stm : Stm) (x : Sent) (ys : List Sent) (z : Sent)
-    → Stands isOrdered stm x ys z
+    → OrderStands isOrdered stm x ys z
     → let last = stateAtEnd (stateAfter stm x) ys in
     1 ≤ last .train .times .brake
     → orderedNow last (z .command) Cause.ServiceFault
@@ -77,7 +77,7 @@ ServiceFaultAtLimit =
 abbrev pub EmergencyFaultAtLimit : Type 0
 EmergencyFaultAtLimit =
     (stm : Stm) (x : Sent) (ys : List Sent) (z : Sent)
-    → Stands isEmergency stm x ys z
+    → OrderStands isEmergency stm x ys z
     → let last = stateAtEnd (stateAfter stm x) ys in
     let fails = failsWith (last .train .check) (dropsOver (stateAfter stm x) ys) (hasDrop (stateAfter last z)) in
     1 ≤ last .train .check → last .brakes .failed ≡ false

@@ -144,15 +144,15 @@ ShownInDA =
 -- ---- outside DA
 
 -- "Outside DA order is 0 (FA: 3), id 255, messages as standing, the rest 0"
-abbrev pub stateAndOrder : State → List ℕ → Type 0
-stateAndOrder State.DE report = (stateIn report ≡ 0) × (orderIn report ≡ 0)
-stateAndOrder State.CS report = (stateIn report ≡ 1) × (orderIn report ≡ 0)
-stateAndOrder State.HS report = (stateIn report ≡ 2) × (orderIn report ≡ 0)
-stateAndOrder State.DA report = ⊥
-stateAndOrder State.FA report = (stateIn report ≡ 4) × (orderIn report ≡ 3)
+abbrev pub StateAndOrder : State → List ℕ → Type 0
+StateAndOrder State.DE report = (stateIn report ≡ 0) × (orderIn report ≡ 0)
+StateAndOrder State.CS report = (stateIn report ≡ 1) × (orderIn report ≡ 0)
+StateAndOrder State.HS report = (stateIn report ≡ 2) × (orderIn report ≡ 0)
+StateAndOrder State.DA report = ⊥
+StateAndOrder State.FA report = (stateIn report ≡ 4) × (orderIn report ≡ 3)
 
 pub record WrittenOutside (state : State) (report : List ℕ) : Type 0 where
-  pub first : stateAndOrder state report
+  pub first : StateAndOrder state report
   pub causes : causesIn report ≡ 0
   pub permitted : permittedIn report ≡ 0
   pub vmax : vmaxIn report ≡ 0
@@ -168,7 +168,7 @@ ReportOutsideDA =
 -- ---- the messages, in every state
 
 -- "bit 0 DRIFTBROMSFEL, 1 NÖDBROMSFEL, 2 TRYCKGIVARFEL at the last odometer report"
-pub record Tellings (stm : Stm) (messages : ℕ) : Type 0 where
+pub record MessagesTell (stm : Stm) (messages : ℕ) : Type 0 where
   pub drift : bitOf 0 messages ≡ stm .brakes .drift
   pub failed : bitOf 1 messages ≡ stm .brakes .failed
   pub fault : bitOf 2 messages ≡ stm .feedback .fault
@@ -177,7 +177,7 @@ pub record Tellings (stm : Stm) (messages : ℕ) : Type 0 where
 abbrev pub MessagesAreWritten : Type 0
 MessagesAreWritten =
     (stm : Stm) (x : Sent)
-    → isAccepted (answerTo stm x) ≡ true → Tellings (stateAfter stm x) (messagesIn (momentOf stm x .area))
+    → isAccepted (answerTo stm x) ≡ true → MessagesTell (stateAfter stm x) (messagesIn (momentOf stm x .area))
 
 -- ---- past in B
 
