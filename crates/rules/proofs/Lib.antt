@@ -45,3 +45,5 @@ pub mod LedUnits
 pub mod Pairs
 pub mod Needed
 pub mod Harder
+pub mod Tables
+pub mod Cases

@@ -1,0 +1,711 @@
+-- Figures beside those that 01 marks: runs of whole commands as bytes, each with what its last call answers and writes. Proved in
+-- proofs/.
+use mathlib.Core.Path.{_≡_}
+use Prim.Native.Nat.{ℕ, suc, pred, _+_, _-_, _/_, _%_, _^_}
+use mathlib.Core.Bool.{Bool, true, _&&_}
+use mathlib.Core.List.{List, [], _∷_, _++_, map, foldr}
+use lib.Dec.{eqb}
+use lib.ListN.{replicate}
+use Rattle.wire.specs.Bytes.{sameBytes}
+use Rattle.rules.specs.Numbers.{answerNumber}
+use Rattle.rules.specs.Places.{allOf}
+use Rattle.rules.specs.Commands.{freshStm}
+use Rattle.rules.specs.Runs.{Moment, momentOf, stateAfter}
+use Rattle.rules.specs.History.{sum, stateIn, orderIn, causesIn, permittedIn, vmaxIn, idIn, shownIn, barIn, modeIn}
+use Rattle.rules.specs.History.{messagesIn, offeredIn}
+use Rattle.rules.specs.Figures.{send}
+use Rattle.rules.specs.Tables.{Command, start, state, report, curve, curveEnd, section, sectionEnd, stop, proceed}
+use Rattle.rules.specs.Tables.{baliseError, sent, further, halts, withReference}
+use Rattle.rules.specs.declared.Answer.{Answer}
+use Rattle.rules.specs.declared.Stm.{Stm}
+
+-- ---- what a call answers and writes
+
+abbrev pub Test : Type 0
+Test = Moment → Bool
+
+abbrev pub answer : ℕ → Test
+answer figure m = eqb (answerNumber (m .answer)) figure
+
+-- "A refusal changes neither state nor report": the area keeps its 255
+abbrev pub refused : ℕ → Test
+refused figure m = answer figure m && allOf (eqb 255) (m .area)
+
+abbrev pub written : List ℕ → Test
+written report m = sameBytes (m .area) report
+
+abbrev pub stateIs : ℕ → Test
+stateIs figure m = eqb (stateIn (m .area)) figure
+
+abbrev pub order : ℕ → Test
+order figure m = eqb (orderIn (m .area)) figure
+
+-- by their bits
+abbrev pub causes : List ℕ → Test
+causes bits m = eqb (causesIn (m .area)) (sum (map (λ bit. 2 ^ bit) bits))
+
+abbrev pub permitted : ℕ → Test
+permitted figure m = eqb (permittedIn (m .area)) figure
+
+abbrev pub vmax : ℕ → Test
+vmax figure m = eqb (vmaxIn (m .area)) figure
+
+-- id, interval, bar and mode
+abbrev pub shows : ℕ → ℕ → ℕ → ℕ → Test
+shows id interval bar mode m =
+    eqb (idIn (m .area)) id
+    && eqb (shownIn (m .area)) interval
+    && eqb (barIn (m .area)) bar
+    && eqb (modeIn (m .area)) mode
+
+abbrev pub messages : ℕ → Test
+messages figure m = eqb (messagesIn (m .area)) figure
+
+abbrev pub offered : ℕ → Test
+offered figure m = eqb (offeredIn (m .area)) figure
+
+-- ---- cases
+
+-- a run, and what its last call shows
+pub record Case : Type 0 where
+  pub commands : List Command
+  pub tests : List Test
+
+abbrev pub after : List Command → List Test → Case
+after commands tests = record { commands = commands; tests = tests }
+
+-- the last moment of a run
+unfoldable pub lastMoment : Stm → List Command → Moment
+lastMoment stm [] = record { answer = Answer.Accepted; area = []; stm = stm }
+lastMoment stm (x ∷ []) = momentOf stm (sent stm x)
+lastMoment stm (x ∷ y ∷ rest) = lastMoment (stateAfter stm (sent stm x)) (y ∷ rest)
+
+abbrev pub passes : List Test → Moment → Bool
+passes tests m = allOf (λ test. test m) tests
+
+abbrev pub holds : Stm → Case → Bool
+holds stm case = passes (case .tests) (lastMoment stm (case .commands))
+
+-- ---- trains and commands
+
+-- 98 km/h, 10 m, b 700 and 500, T_B 30, gaps 10, 25 and 40, margins 10 and 19, sufficient 50 kPa, T_EBCHK 13
+abbrev pub slowTrain : Command
+slowTrain = start 0 98 10 700 500 30 10 25 40 10 19 50 380 13
+
+-- with flag bit 0, 300 km/h, T_B 3 and T_EBCHK 2; and with cylinder feedback
+abbrev pub fastTrain : Command
+fastTrain = start 1 300 400 700 500 3 10 25 40 10 15 50 380 2
+
+abbrev pub cylinderTrain : Command
+cylinderTrain = start 2 300 400 700 500 3 10 25 40 10 15 50 380 2
+
+-- a start whose train is 1,001 m long
+abbrev pub tooLong : Command
+tooLong = start 0 98 1001 700 500 30 10 25 40 10 19 50 380 13
+
+abbrev pub inDA : Command → Stm
+inDA x = further (withReference x) (state 3 ∷ [])
+
+-- "bit 0 LOSS, 1 text, 2 HALKA, 3 neutral"
+abbrev pub loss : ℕ
+loss = 1
+
+abbrev pub text : ℕ
+text = 2
+
+abbrev pub halka : ℕ
+halka = 4
+
+abbrev pub neutral : ℕ
+neutral = 8
+
+-- a report at a speed, with no ground, 500 kPa and these buttons
+abbrev pub atSpeed : ℕ → ℕ → Command
+atSpeed speed buttons = report speed 0 0 1000 buttons
+
+-- at 100 cm/s with this ground; with neutral
+abbrev pub moves : ℕ → Command
+moves ground = report 100 ground 0 1000 0
+
+abbrev pub rolls : ℕ → Command
+rolls ground = report 100 ground 0 1000 neutral
+
+-- at standstill with this P_EXT
+abbrev pub withPressure : ℕ → Command
+withPressure external = report 0 0 0 external 0
+
+-- the last command again; one with a number too high, and with another number; bytes; an area of so many bytes
+abbrev pub again : Command → Command
+again x next = x (pred next)
+
+abbrev pub skipping : Command → Command
+skipping x next = x (suc next)
+
+abbrev pub numbered : ℕ → Command → Command
+numbered n x next = x n
+
+abbrev pub bytes : List ℕ → Command
+bytes command next = send command
+
+abbrev pub withArea : ℕ → Command → Command
+withArea size x next = record { command = x next .command; area = replicate size 255 }
+
+-- curve 1 to 40 km/h with this gradient, and a report at 2,500 cm/s that leaves it so many cm away, with this P_EXT and these
+-- buttons
+abbrev pub approaches : ℕ → ℕ → ℕ → ℕ → List Command
+approaches gradient distance external buttons =
+    curve 1 0 (distance / 100 + 1) 40 gradient ∷ report 2500 (100 - distance % 100) 0 external buttons ∷ []
+
+-- ---- VMAX and the speeds
+
+-- a slow train in DA
+abbrev pub speedCases : List Case
+speedCases =
+    -- "v ≥ VMAX+10": 108 km/h is 3,000 cm/s; "v ≥ VMAX+emergency margin": 117 km/h is 3,250
+    after (atSpeed 2999 0 ∷ []) (causes [] ∷ order 0 ∷ [])
+    ∷ after (atSpeed 3000 0 ∷ []) (causes (0 ∷ []) ∷ order 2 ∷ offered 0 ∷ [])
+    ∷ after (atSpeed 3249 0 ∷ []) (causes (0 ∷ []) ∷ order 2 ∷ [])
+    ∷ after (atSpeed 3250 0 ∷ []) (causes (0 ∷ 1 ∷ []) ∷ order 3 ∷ [])
+    -- "v < VMAX+5", bits 0 and 1: with a section of 94 km/h, 99 km/h is 2,750
+    ∷ after (section 1 94 ∷ atSpeed 3250 0 ∷ atSpeed 2750 loss ∷ []) (vmax 94 ∷ causes (0 ∷ 1 ∷ []) ∷ offered 0 ∷ [])
+    ∷ after (section 1 94 ∷ atSpeed 3250 0 ∷ atSpeed 2749 loss ∷ []) (causes [] ∷ order 0 ∷ offered 0 ∷ [])
+    -- bit 7, with the 40 of an unexpected stop: 45 km/h is 1,250
+    ∷ after (stop 1 ∷ atSpeed 1250 loss ∷ []) (causes (6 ∷ 7 ∷ []) ∷ [])
+    ∷ after (stop 1 ∷ atSpeed 1249 loss ∷ []) (causes (6 ∷ []) ∷ [])
+    -- "40 after an unexpected stop until a proceed signal"
+    ∷ after (stop 0 ∷ []) (vmax 98 ∷ [])
+    ∷ after (stop 1 ∷ []) (vmax 40 ∷ permitted 40 ∷ [])
+    ∷ after (stop 1 ∷ report 100 0 490 1000 loss ∷ []) (causes [] ∷ vmax 40 ∷ [])
+    ∷ after (stop 1 ∷ proceed ∷ []) (vmax 98 ∷ permitted 98 ∷ causes (6 ∷ 7 ∷ []) ∷ [])
+    -- the least of the sections; a held id is replaced
+    ∷ after (section 1 90 ∷ section 2 80 ∷ section 3 85 ∷ []) (vmax 80 ∷ permitted 80 ∷ [])
+    ∷ after (section 1 50 ∷ section 1 70 ∷ []) (vmax 70 ∷ [])
+    -- bit 9, "v ≤ 80 km/h": 2,222 and 2,223
+    ∷ after (baliseError ∷ atSpeed 2222 0 ∷ []) (causes (9 ∷ []) ∷ order 2 ∷ offered 1 ∷ [])
+    ∷ after (baliseError ∷ atSpeed 2223 0 ∷ []) (causes (9 ∷ []) ∷ offered 0 ∷ [])
+    -- "Other commands judge nothing new"
+    ∷ after (atSpeed 2500 0 ∷ section 1 50 ∷ []) (vmax 50 ∷ causes [] ∷ [])
+    ∷ after (atSpeed 2500 0 ∷ section 1 50 ∷ atSpeed 2500 0 ∷ []) (causes (0 ∷ 1 ∷ []) ∷ [])
+    ∷ []
+
+-- ---- stops, and LOSS
+
+abbrev pub stopCases : List Case
+stopCases =
+    -- "command 30, 0", "30, 1", "30, 2", "32"
+    after (stop 0 ∷ []) (causes (5 ∷ []) ∷ order 3 ∷ offered 0 ∷ [])
+    ∷ after (stop 1 ∷ []) (causes (6 ∷ 7 ∷ []) ∷ order 3 ∷ [])
+    ∷ after (stop 2 ∷ []) (causes (8 ∷ []) ∷ order 2 ∷ offered 0 ∷ [])
+    ∷ after (baliseError ∷ []) (causes (9 ∷ []) ∷ order 2 ∷ offered 1 ∷ [])
+    -- "A halt is speed 0 and moved 0", since the command
+    ∷ after (stop 0 ∷ report 0 0 0 1000 loss ∷ []) (causes [] ∷ [])
+    ∷ after (stop 0 ∷ report 1 0 0 1000 loss ∷ []) (causes (5 ∷ []) ∷ [])
+    ∷ after (stop 0 ∷ report 0 1 0 1000 loss ∷ []) (causes (5 ∷ []) ∷ [])
+    ∷ after (stop 0 ∷ halts ∷ atSpeed 100 0 ∷ []) (offered 1 ∷ [])
+    ∷ after (stop 2 ∷ halts ∷ atSpeed 100 loss ∷ []) (causes [] ∷ [])
+    -- "“since” starts again for those", and for no other
+    ∷ after (stop 0 ∷ halts ∷ stop 0 ∷ atSpeed 100 loss ∷ []) (causes (5 ∷ []) ∷ [])
+    ∷ after (stop 2 ∷ halts ∷ stop 2 ∷ atSpeed 100 loss ∷ []) (causes (8 ∷ []) ∷ [])
+    ∷ after (stop 0 ∷ halts ∷ stop 2 ∷ atSpeed 100 loss ∷ []) (causes (8 ∷ []) ∷ [])
+    ∷ after (stop 2 ∷ halts ∷ stop 0 ∷ atSpeed 100 loss ∷ []) (causes (5 ∷ []) ∷ [])
+    ∷ after (stop 0 ∷ stop 2 ∷ halts ∷ stop 1 ∷ atSpeed 100 loss ∷ []) (causes (6 ∷ []) ∷ [])
+    -- a second 30, 1: "10×measured ≥ 7×full deceleration once since", 490 of 700
+    ∷ after (stop 1 ∷ report 100 0 490 1000 0 ∷ atSpeed 100 loss ∷ []) (causes [] ∷ [])
+    ∷ after (stop 1 ∷ report 100 0 490 1000 0 ∷ stop 1 ∷ atSpeed 100 loss ∷ []) (causes (6 ∷ []) ∷ [])
+    ∷ after (stop 1 ∷ report 100 0 490 1000 0 ∷ stop 0 ∷ atSpeed 100 loss ∷ []) (causes (5 ∷ []) ∷ [])
+    -- −490
+    ∷ after (stop 1 ∷ report 100 0 0xFE16 1000 loss ∷ []) (causes (6 ∷ []) ∷ [])
+    -- "Letting a held LOSS release": pressed while it is too fast, held, and pressed again
+    ∷ after (atSpeed 3056 0 ∷ atSpeed 3056 loss ∷ atSpeed 2000 loss ∷ []) (causes (0 ∷ []) ∷ offered 1 ∷ [])
+    ∷ after (atSpeed 3056 0 ∷ atSpeed 3056 loss ∷ atSpeed 2000 0 ∷ atSpeed 2000 loss ∷ []) (causes [] ∷ [])
+    -- text is no LOSS
+    ∷ after (stop 0 ∷ report 0 0 0 1000 text ∷ []) (causes (5 ∷ []) ∷ offered 1 ∷ [])
+    -- "Entering CS drops curves, sections, causes, their counters and the 40"; in DA at overspeed nothing is ordered before the
+    -- next report
+    ∷ after (stop 1 ∷ section 1 50 ∷ curve 1 0 0 40 0 ∷ atSpeed 3056 0 ∷ state 1 ∷ [])
+    (written (1 ∷ 0 ∷ 0 ∷ 0 ∷ 0 ∷ 0 ∷ 0 ∷ 0 ∷ 255 ∷ 0 ∷ 0 ∷ 0 ∷ 0 ∷ 0 ∷ []) ∷ [])
+    ∷ after (state 1 ∷ state 2 ∷ section 1 50 ∷ curve 1 0 0 40 0 ∷ atSpeed 3056 0 ∷ [])
+    (written (2 ∷ 0 ∷ 0 ∷ 0 ∷ 0 ∷ 0 ∷ 0 ∷ 0 ∷ 255 ∷ 0 ∷ 0 ∷ 0 ∷ 0 ∷ 0 ∷ []) ∷ [])
+    ∷ after (stop 1 ∷ section 1 50 ∷ curve 1 0 0 40 0 ∷ atSpeed 3056 0 ∷ state 1 ∷ state 2 ∷ state 3 ∷ [])
+    (written (3 ∷ 0 ∷ 0 ∷ 0 ∷ 0 ∷ 98 ∷ 0 ∷ 98 ∷ 255 ∷ 0 ∷ 0 ∷ 0 ∷ 0 ∷ 0 ∷ []) ∷ [])
+    ∷ []
+
+-- ---- rolling
+
+-- "Rolling for bit 10 is counted in DA only, .. and never before" a halt; text held since before
+abbrev pub rollingCases : List Case
+rollingCases =
+    after (rolls 501 ∷ []) (causes [] ∷ [])
+    ∷ after (report 0 1 0 1000 neutral ∷ rolls 501 ∷ []) (causes [] ∷ [])
+    ∷ after (report 1 0 0 1000 neutral ∷ rolls 501 ∷ []) (causes [] ∷ [])
+    ∷ after (report 0 0 0 1000 text ∷ report 100 501 0 1000 (neutral + text) ∷ []) (causes (10 ∷ []) ∷ [])
+    ∷ []
+
+-- after a halt
+abbrev pub haltedCases : List Case
+haltedCases =
+    -- "over 500 cm rolled from standstill": 500 and 501, at once and added up, "from 0 at each halt"
+    after (rolls 500 ∷ []) (causes [] ∷ [])
+    ∷ after (rolls 501 ∷ []) (causes (10 ∷ []) ∷ order 2 ∷ offered 2 ∷ [])
+    ∷ after (rolls 250 ∷ rolls 250 ∷ []) (causes [] ∷ [])
+    ∷ after (rolls 250 ∷ rolls 251 ∷ []) (causes (10 ∷ []) ∷ [])
+    ∷ after (rolls 300 ∷ halts ∷ rolls 300 ∷ []) (causes [] ∷ [])
+    ∷ after (state 1 ∷ state 2 ∷ state 3 ∷ rolls 501 ∷ []) (causes [] ∷ [])
+    -- "a report without neutral that is no halt ends it until the next halt"
+    ∷ after (rolls 300 ∷ atSpeed 100 0 ∷ rolls 501 ∷ []) (causes [] ∷ [])
+    ∷ after (rolls 300 ∷ atSpeed 100 0 ∷ halts ∷ rolls 501 ∷ []) (causes (10 ∷ []) ∷ [])
+    -- bit 10 is ordered and dropped in one report; a text with no bit 10 does nothing to the count
+    ∷ after (report 100 501 0 1000 (neutral + text) ∷ []) (causes [] ∷ [])
+    ∷ after (report 100 501 0 1000 (neutral + text) ∷ rolls 500 ∷ []) (causes [] ∷ [])
+    ∷ after (rolls 300 ∷ atSpeed 100 (neutral + text) ∷ rolls 201 ∷ []) (causes (10 ∷ []) ∷ [])
+    ∷ []
+
+-- after a halt and 501 cm with neutral
+abbrev pub rolledCases : List Case
+rolledCases =
+    -- "a fresh press of text drops 10", and LOSS does not; "a drop of bit 10 sets it back to 0"
+    after (atSpeed 100 (neutral + text) ∷ []) (causes [] ∷ order 0 ∷ offered 0 ∷ [])
+    ∷ after (atSpeed 100 (neutral + loss) ∷ []) (causes (10 ∷ []) ∷ [])
+    ∷ after (atSpeed 100 (neutral + text) ∷ rolls 500 ∷ []) (causes [] ∷ [])
+    ∷ after (atSpeed 100 (neutral + text) ∷ rolls 501 ∷ []) (causes (10 ∷ []) ∷ [])
+    -- where it has ended it stays ended
+    ∷ after (atSpeed 100 text ∷ rolls 501 ∷ []) (causes [] ∷ [])
+    ∷ []
+
+-- ---- the brake checks
+
+-- too fast for a fast train, with this P_EXT
+abbrev pub tooFast : ℕ → Command
+tooFast external = report 8612 0 0 external 0
+
+-- T_B 3: "service ordered, no drop of 60 kPa or more by T_B". After three reports that are too fast the count is 2
+abbrev pub serviceCases : List Case
+serviceCases =
+    -- "counts from 0 when its order begins .. and one more at each later report in DA"
+    after (again (tooFast 1000) ∷ []) (causes (0 ∷ []) ∷ order 1 ∷ messages 0 ∷ [])
+    ∷ after (tooFast 1000 ∷ []) (causes (0 ∷ 11 ∷ []) ∷ order 3 ∷ messages 1 ∷ [])
+    -- a drop of 59.5 and of 60 from 500 kPa
+    ∷ after (tooFast 881 ∷ []) (causes (0 ∷ 11 ∷ []) ∷ [])
+    ∷ after (tooFast 880 ∷ []) (causes (0 ∷ []) ∷ messages 0 ∷ [])
+    -- FF9B is −50.5 kPa: "P_INT is P_REF"; FF9C is −50: P_INT is 0
+    ∷ after (tooFast 0xFF9B ∷ []) (causes (0 ∷ 11 ∷ []) ∷ messages 5 ∷ [])
+    ∷ after (tooFast 0xFF9C ∷ []) (causes (0 ∷ []) ∷ messages 0 ∷ [])
+    -- bit 11 is releasable when "all others are": 305 km/h is between 8,472 and 8,473; "shows DRIFTBROMSFEL until no order stands"
+    ∷ after (tooFast 1000 ∷ atSpeed 8473 loss ∷ []) (causes (0 ∷ 11 ∷ []) ∷ messages 1 ∷ offered 0 ∷ [])
+    ∷ after (tooFast 1000 ∷ atSpeed 8472 0 ∷ []) (causes (0 ∷ 11 ∷ []) ∷ offered 1 ∷ [])
+    ∷ after (tooFast 1000 ∷ atSpeed 8472 loss ∷ []) (causes [] ∷ messages 0 ∷ [])
+    ∷ after (tooFast 1000 ∷ state 1 ∷ []) (stateIs 1 ∷ messages 0 ∷ [])
+    ∷ []
+
+-- after a balise error and two reports at standstill the count is 2 too
+abbrev pub errorCases : List Case
+errorCases =
+    after (again halts ∷ []) (causes (9 ∷ []) ∷ [])
+    ∷ after (halts ∷ []) (causes (9 ∷ 11 ∷ []) ∷ [])
+    -- a second cause begins nothing
+    ∷ after (stop 2 ∷ halts ∷ []) (causes (8 ∷ 9 ∷ 11 ∷ []) ∷ [])
+    -- bit 6 is not releasable: 7 and 9 go, 11 stays
+    ∷ after (halts ∷ stop 1 ∷ atSpeed 0 loss ∷ []) (causes (6 ∷ 11 ∷ []) ∷ messages 1 ∷ [])
+    -- bit 11 is ordered and dropped in one report; an order that begins anew is checked anew
+    ∷ after (atSpeed 0 loss ∷ []) (causes [] ∷ messages 0 ∷ [])
+    ∷ after (atSpeed 0 loss ∷ baliseError ∷ halts ∷ halts ∷ []) (causes (9 ∷ []) ∷ [])
+    ∷ []
+
+-- in DA, before any order
+abbrev pub orderCases : List Case
+orderCases =
+    -- a drop before the limit satisfies; at the beginning it doesn't count
+    after (tooFast 1000 ∷ tooFast 880 ∷ tooFast 1000 ∷ tooFast 1000 ∷ []) (causes (0 ∷ []) ∷ [])
+    ∷ after (tooFast 880 ∷ tooFast 1000 ∷ tooFast 1000 ∷ tooFast 1000 ∷ []) (causes (0 ∷ 11 ∷ []) ∷ [])
+    -- bit 10 is always releasable, and LOSS drops bit 11 beside it
+    ∷ after (halts ∷ rolls 501 ∷ rolls 0 ∷ rolls 0 ∷ rolls 0 ∷ []) (causes (10 ∷ 11 ∷ []) ∷ offered 3 ∷ [])
+    ∷ after (halts ∷ rolls 501 ∷ rolls 0 ∷ rolls 0 ∷ rolls 0 ∷ atSpeed 100 (neutral + loss) ∷ [])
+    (causes (10 ∷ []) ∷ messages 1 ∷ offered 2 ∷ [])
+    -- the emergency order ends while bit 7 stands, and begins anew
+    ∷ after (stop 1 ∷ report 1250 0 490 1000 loss ∷ []) (causes (7 ∷ []) ∷ order 2 ∷ [])
+    ∷ after (stop 1 ∷ report 1250 0 490 1000 loss ∷ stop 0 ∷ atSpeed 1250 0 ∷ []) (stateIs 3 ∷ causes (5 ∷ 7 ∷ []) ∷ [])
+    ∷ after (stop 1 ∷ report 1250 0 490 1000 loss ∷ stop 0 ∷ atSpeed 1250 0 ∷ atSpeed 1250 0 ∷ []) (stateIs 4 ∷ [])
+    ∷ []
+
+-- T_EBCHK 2: "An emergency order without a 60 kPa drop by T_EBCHK shows NÖDBROMSFEL and leads to FA". After 30, 0 and a report the
+-- count is 1
+abbrev pub emergencyCases : List Case
+emergencyCases =
+    after (again halts ∷ []) (stateIs 3 ∷ causes (5 ∷ []) ∷ messages 0 ∷ [])
+    ∷ after (halts ∷ []) (written (4 ∷ 3 ∷ 0 ∷ 0 ∷ 0 ∷ 0 ∷ 0 ∷ 0 ∷ 255 ∷ 0 ∷ 0 ∷ 0 ∷ 2 ∷ 0 ∷ []) ∷ [])
+    ∷ after (withPressure 881 ∷ []) (stateIs 4 ∷ [])
+    ∷ after (withPressure 880 ∷ []) (stateIs 3 ∷ messages 0 ∷ [])
+    ∷ after (withPressure 880 ∷ halts ∷ halts ∷ []) (stateIs 3 ∷ [])
+    -- a second emergency cause begins nothing
+    ∷ after (stop 1 ∷ halts ∷ []) (stateIs 4 ∷ [])
+    -- "Outside DA order is 0 (FA: 3)": ordered by 02
+    ∷ after (state 4 ∷ []) (written (4 ∷ 3 ∷ 0 ∷ 0 ∷ 0 ∷ 0 ∷ 0 ∷ 0 ∷ 255 ∷ 0 ∷ 0 ∷ 0 ∷ 0 ∷ 0 ∷ []) ∷ [])
+    ∷ []
+
+-- after 30, 2, a full order, and a report
+abbrev pub landslideCases : List Case
+landslideCases =
+    -- bit 11 comes two reports later, and begins the check of the emergency order
+    after (halts ∷ halts ∷ halts ∷ []) (stateIs 3 ∷ causes (8 ∷ 11 ∷ []) ∷ messages 1 ∷ [])
+    ∷ after (halts ∷ halts ∷ halts ∷ halts ∷ []) (stateIs 4 ∷ messages 3 ∷ [])
+    -- both limits at one report, "before releases"; with TRYCKGIVARFEL
+    ∷ after (stop 0 ∷ halts ∷ atSpeed 0 loss ∷ []) (stateIs 4 ∷ messages 3 ∷ [])
+    ∷ after (stop 0 ∷ halts ∷ withPressure 1911 ∷ []) (stateIs 4 ∷ messages 7 ∷ [])
+    ∷ []
+
+-- with cylinder feedback and P_FULL 380, at the same count: 152 kPa is a drop of 150×152/380 = 60, 151.5 kPa is less; 956 kPa
+-- counts as 0
+abbrev pub cylinderCases : List Case
+cylinderCases =
+    after (tooFast 304 ∷ []) (causes (0 ∷ []) ∷ order 2 ∷ messages 0 ∷ [])
+    ∷ after (tooFast 303 ∷ []) (causes (0 ∷ 11 ∷ []) ∷ messages 1 ∷ [])
+    ∷ after (tooFast 1912 ∷ []) (causes (0 ∷ 11 ∷ []) ∷ messages 5 ∷ [])
+    ∷ []
+
+-- ---- flag bit 0, and a whole report
+
+-- a fast train in DA: "“Soft” means soft with flag bit 0, else full"
+abbrev pub softCases : List Case
+softCases =
+    after (tooFast 1000 ∷ []) (causes (0 ∷ []) ∷ order 1 ∷ [])
+    ∷ after (baliseError ∷ []) (causes (9 ∷ []) ∷ order 1 ∷ [])
+    ∷ after (halts ∷ rolls 501 ∷ []) (causes (10 ∷ []) ∷ order 1 ∷ [])
+    ∷ after (approaches 0 35824 1000 0) (causes (2 ∷ []) ∷ order 2 ∷ [])
+    ∷ after (approaches 0 50154 1000 halka) (causes (3 ∷ []) ∷ order 1 ∷ [])
+    ∷ after (stop 2 ∷ tooFast 1000 ∷ []) (causes (0 ∷ 8 ∷ []) ∷ order 2 ∷ [])
+    ∷ after (stop 2 ∷ stop 0 ∷ tooFast 1000 ∷ []) (causes (0 ∷ 5 ∷ 8 ∷ []) ∷ order 3 ∷ [])
+    -- bit 7 is left of an unexpected stop, and bit 9 stands; VMAX is 280 (0118); curve 9 to 70 km/h, 3,550 m away and 3 ‰ uphill,
+    -- is in C at 7,400 cm/s and permits 258 km/h (0102); the pressure is too high
+    ∷ after
+    (stop 1
+    ∷ report 1300 0 490 1000 loss
+    ∷ proceed
+    ∷ section 3 280
+    ∷ curve 9 0 3560 70 3
+    ∷ baliseError
+    ∷ report 7400 1000 0 1911 0
+    ∷ [])
+    (written (3 ∷ 2 ∷ 0x02 ∷ 0x80 ∷ 0x01 ∷ 0x02 ∷ 0x01 ∷ 0x18 ∷ 9 ∷ 5 ∷ 2 ∷ 3 ∷ 4 ∷ 1 ∷ []) ∷ [])
+    ∷ []
+
+-- ---- feedback
+
+-- a slow train in DE, after 30 reports with 500 kPa
+abbrev pub settlingCases : List Case
+settlingCases =
+    -- "After 30 further reports within 20, P_REF is P0": 480 and 479.5, 520 and 520.5 kPa beside 500; without it DA is refused (11)
+    after (state 3 ∷ []) (refused 11 ∷ [])
+    ∷ after (halts ∷ state 3 ∷ []) (answer 0 ∷ [])
+    ∷ after (withPressure 960 ∷ state 3 ∷ []) (answer 0 ∷ [])
+    ∷ after (withPressure 959 ∷ state 3 ∷ []) (refused 11 ∷ [])
+    ∷ after (withPressure 1040 ∷ state 3 ∷ []) (answer 0 ∷ [])
+    ∷ after (withPressure 1041 ∷ state 3 ∷ []) (refused 11 ∷ [])
+    -- "TRYCKGIVARFEL at the last odometer report": "Below −50", "Above 955"; FF9C is −50 kPa, FF9B is −50.5
+    ∷ after (withPressure 1910 ∷ []) (messages 0 ∷ [])
+    ∷ after (withPressure 1911 ∷ []) (written (0 ∷ 0 ∷ 0 ∷ 0 ∷ 0 ∷ 0 ∷ 0 ∷ 0 ∷ 255 ∷ 0 ∷ 0 ∷ 0 ∷ 4 ∷ 0 ∷ []) ∷ [])
+    ∷ after (withPressure 0xFF9C ∷ []) (messages 0 ∷ [])
+    ∷ after (withPressure 0xFF9B ∷ []) (messages 4 ∷ [])
+    ∷ after (withPressure 1911 ∷ state 1 ∷ []) (stateIs 1 ∷ messages 4 ∷ [])
+    ∷ after (withPressure 1911 ∷ halts ∷ []) (messages 0 ∷ [])
+    ∷ after (withPressure 1911 ∷ slowTrain ∷ []) (messages 0 ∷ [])
+    -- a press is fresh against the last report in whatever state: LOSS held since DE drops nothing
+    ∷ after (atSpeed 0 loss ∷ state 3 ∷ baliseError ∷ atSpeed 0 loss ∷ []) (causes (9 ∷ []) ∷ offered 1 ∷ [])
+    ∷ after (halts ∷ state 3 ∷ baliseError ∷ atSpeed 0 loss ∷ []) (causes [] ∷ offered 0 ∷ [])
+    ∷ []
+
+-- after a report with 500 kPa, one with 399.5 and 29 with 400: "A P_INT more than 20 from P0 is judged as if waiting", and of "a
+-- P_INT of 400–550" it is the first 400 that is saved
+abbrev pub waitingCases : List Case
+waitingCases =
+    after (withPressure 800 ∷ state 3 ∷ []) (refused 11 ∷ [])
+    ∷ after (withPressure 800 ∷ withPressure 800 ∷ state 3 ∷ []) (answer 0 ∷ [])
+    ∷ []
+
+-- after nine reports with 470 kPa since P_REF was set to 500: "at every tenth report from there: P_REF < P_INT adds 1.5; P_INT <
+-- P_REF ≤ P_INT + 30 takes 0.5; otherwise no change". P_REF is then 499.5, 500 and 501.5, by what drop is sufficient in D
+abbrev pub referenceCases : List Case
+referenceCases =
+    after (withPressure 940 ∷ state 3 ∷ approaches 0 43324 899 0) (causes [] ∷ [])
+    ∷ after (withPressure 940 ∷ state 3 ∷ approaches 0 43324 900 0) (causes (2 ∷ []) ∷ [])
+    ∷ after (withPressure 939 ∷ state 3 ∷ approaches 0 43324 900 0) (causes [] ∷ [])
+    ∷ after (withPressure 1001 ∷ state 3 ∷ approaches 0 43324 903 0) (causes [] ∷ [])
+    ∷ after (withPressure 1001 ∷ state 3 ∷ approaches 0 43324 904 0) (causes (2 ∷ []) ∷ [])
+    ∷ after (state 3 ∷ approaches 0 43324 900 0) (causes [] ∷ [])
+    ∷ []
+
+-- ---- curves
+
+-- a slow train in DA
+abbrev pub curveCases : List Case
+curveCases =
+    -- on level track, b 700: the line is met at T = 0 from 35,824 cm on, and 250 cm further off for each tenth of lead
+    after (approaches 0 69575 1000 0) (shows 1 1 0 0 ∷ [])
+    ∷ after (approaches 0 69574 1000 0) (shows 1 3 1 1 ∷ [])
+    ∷ after (approaches 0 59575 1000 0) (shows 1 3 1 1 ∷ [])
+    ∷ after (approaches 0 59574 1000 0) (shows 1 4 2 2 ∷ [])
+    -- "B past permitted 3"; the permitted speed is 90 km/h, 2,500 cm/s, until then
+    ∷ after (approaches 0 52075 1000 0) (shows 1 4 2 2 ∷ permitted 90 ∷ vmax 98 ∷ [])
+    ∷ after (approaches 0 52074 1000 0) (shows 1 4 2 3 ∷ permitted 89 ∷ vmax 98 ∷ [])
+    ∷ after (approaches 0 45825 1000 0) (shows 1 4 2 3 ∷ [])
+    ∷ after (approaches 0 45824 1000 0) (shows 1 5 2 3 ∷ [])
+    ∷ after (approaches 0 43325 1000 0) (shows 1 5 2 3 ∷ causes [] ∷ [])
+    -- in D "with drop below sufficient": 50 kPa is sufficient, 49.5 is not
+    ∷ after (approaches 0 43324 1000 0) (shows 1 6 2 4 ∷ causes (2 ∷ []) ∷ order 2 ∷ offered 0 ∷ [])
+    ∷ after (approaches 0 43324 901 0) (shows 1 6 2 4 ∷ causes (2 ∷ []) ∷ [])
+    ∷ after (approaches 0 43324 900 0) (shows 1 6 2 3 ∷ causes [] ∷ order 0 ∷ [])
+    ∷ after (approaches 0 35825 900 0) (shows 1 6 2 3 ∷ causes [] ∷ [])
+    ∷ after (approaches 0 35824 900 0) (shows 1 7 2 4 ∷ causes (2 ∷ []) ∷ [])
+    -- F with the margin 10: the line is met at 80 km/h
+    ∷ after (approaches 0 26456 900 0) (shows 1 7 2 4 ∷ causes (2 ∷ []) ∷ order 2 ∷ [])
+    ∷ after (approaches 0 26455 900 0) (shows 1 8 2 4 ∷ causes (2 ∷ 4 ∷ []) ∷ order 3 ∷ [])
+    -- "uphill (positive) adds 9 per ‰, downhill takes 10": +10 is b 790, −10 (F6) is b 600
+    ∷ after (approaches 10 31744 1000 0) (shows 1 6 2 4 ∷ [])
+    ∷ after (approaches 10 31743 1000 0) (shows 1 7 2 4 ∷ [])
+    ∷ after (approaches 0xF6 41796 1000 0) (shows 1 6 2 4 ∷ [])
+    ∷ after (approaches 0xF6 41795 1000 0) (shows 1 7 2 4 ∷ [])
+    -- "soft with HALKA on": b 500; "bit 2 HALKA off, 3 on"
+    ∷ after (approaches 0 50155 900 halka) (shows 1 6 2 3 ∷ causes [] ∷ [])
+    ∷ after (approaches 0 50154 900 halka) (shows 1 7 2 4 ∷ causes (3 ∷ []) ∷ order 2 ∷ [])
+    ∷ after (approaches 0 50154 900 halka ++ (atSpeed 2500 0 ∷ [])) (shows 1 4 2 3 ∷ causes (3 ∷ []) ∷ [])
+    ∷ after (approaches 0 43324 1000 0 ++ (atSpeed 2500 halka ∷ [])) (causes (2 ∷ 3 ∷ []) ∷ [])
+    -- "v ≥ target+10 (kind 0)": 54 km/h is 1,500; u' exceeds w from 1,501 on
+    ∷ after (curve 1 0 0 44 0 ∷ atSpeed 1499 0 ∷ []) (shows 1 7 2 4 ∷ causes [] ∷ [])
+    ∷ after (curve 1 0 0 44 0 ∷ atSpeed 1500 0 ∷ []) (shows 1 7 2 4 ∷ causes (2 ∷ []) ∷ [])
+    ∷ after (curve 1 0 0 44 0 ∷ atSpeed 1501 0 ∷ []) (shows 1 8 2 4 ∷ causes (2 ∷ 4 ∷ []) ∷ [])
+    -- "v is above the release speed (kind 1)": 1,111 is A, 1,112 is F
+    ∷ after (curve 1 1 0 40 0 ∷ atSpeed 1111 0 ∷ []) (shows 1 1 0 0 ∷ causes [] ∷ [])
+    ∷ after (curve 1 1 0 40 0 ∷ atSpeed 1112 0 ∷ []) (shows 1 8 2 4 ∷ causes (2 ∷ 4 ∷ []) ∷ order 3 ∷ [])
+    -- "no curve brakes", whatever the interval
+    ∷ after (curve 1 0 0 44 0 ∷ atSpeed 1501 0 ∷ atSpeed 1500 loss ∷ []) (causes (2 ∷ 4 ∷ []) ∷ offered 0 ∷ [])
+    ∷ after (curve 1 0 0 44 0 ∷ atSpeed 1501 0 ∷ atSpeed 1499 0 ∷ []) (causes (2 ∷ 4 ∷ []) ∷ offered 1 ∷ [])
+    ∷ after (curve 1 0 0 44 0 ∷ atSpeed 1501 halka ∷ atSpeed 1499 (halka + loss) ∷ []) (shows 1 7 2 4 ∷ causes [] ∷ [])
+    -- "A curve's past in B is noted at reports in DA": not in Bf, not by a command, and not in HS, where d falls too
+    ∷ after (approaches 0 69574 1000 0 ++ (atSpeed 1000 0 ∷ [])) (shows 1 1 0 0 ∷ [])
+    ∷ after (atSpeed 2500 0 ∷ curve 1 0 300 40 0 ∷ []) (shows 1 7 2 4 ∷ causes [] ∷ [])
+    ∷ after (atSpeed 2500 0 ∷ curve 1 0 300 40 0 ∷ curve 1 0 10000 40 0 ∷ []) (shows 1 1 0 0 ∷ [])
+    ∷ after (state 1 ∷ state 2 ∷ approaches 0 59574 1000 0 ++ (state 3 ∷ [])) (shows 1 4 2 2 ∷ [])
+    ∷ after (state 1 ∷ state 2 ∷ approaches 0 59574 1000 0 ++ (state 3 ∷ curve 1 0 10000 40 0 ∷ [])) (shows 1 1 0 0 ∷ [])
+    -- "Shown: latest computed interval, then lowest permitted speed": of two in A, too
+    ∷ after (curve 2 0 10000 40 0 ∷ approaches 0 59574 1000 0) (shows 1 4 2 2 ∷ [])
+    ∷ after (curve 0 0 10000 40 0 ∷ approaches 0 59574 1000 0) (shows 1 4 2 2 ∷ [])
+    ∷ after (curve 0 0 900 40 0 ∷ approaches 0 69574 1000 0 ++ (atSpeed 0 0 ∷ [])) (shows 1 1 0 0 ∷ permitted 98 ∷ [])
+    ∷ []
+
+-- after a report with curve 1 in B, at 59,574 cm and 2,500 cm/s
+abbrev pub pastCases : List Case
+pastCases =
+    -- "A curve once in B or later that computes A or Bf is shown as Ab"
+    after (atSpeed 1000 0 ∷ []) (shows 1 2 2 2 ∷ [])
+    -- "A held id is replaced (its past in B is kept ..)": in A, in Bf and in B; ended and given anew it has none
+    ∷ after (curve 1 0 10000 40 0 ∷ []) (shows 1 2 2 2 ∷ [])
+    ∷ after (curve 1 0 650 40 0 ∷ []) (shows 1 2 2 2 ∷ [])
+    ∷ after (curve 1 0 590 40 0 ∷ []) (shows 1 4 2 2 ∷ [])
+    ∷ after (curveEnd 1 ∷ []) (shows 255 0 0 0 ∷ permitted 98 ∷ [])
+    ∷ after (curveEnd 1 ∷ curve 1 0 10000 40 0 ∷ []) (shows 1 1 0 0 ∷ [])
+    -- the computed interval counts, so that Bf goes before Ab; "then lowest permitted speed, then lowest id"
+    ∷ after (curve 1 0 10000 40 0 ∷ curve 2 0 650 40 0 ∷ []) (shows 2 3 1 1 ∷ [])
+    ∷ after (curve 2 0 550 40 0 ∷ []) (shows 2 4 2 2 ∷ [])
+    ∷ after (curve 7 0 550 40 0 ∷ curve 4 0 550 40 0 ∷ []) (shows 4 4 2 2 ∷ [])
+    ∷ after (curve 4 0 550 40 0 ∷ curve 7 0 550 40 0 ∷ []) (shows 4 4 2 2 ∷ [])
+    ∷ []
+
+-- ---- places
+
+-- a slow train in HS, with 15 of 16 places held: "A new id finds all 16 curves, or all 16 sections, held", "A held id is
+-- replaced", "A freed place is used again"
+abbrev pub fifteen : List ℕ
+fifteen = 10 ∷ 11 ∷ 12 ∷ 13 ∷ 14 ∷ 15 ∷ 16 ∷ 17 ∷ 18 ∷ 19 ∷ 20 ∷ 21 ∷ 22 ∷ 23 ∷ 24 ∷ []
+
+-- with the curves 10 to 24
+abbrev pub curvePlaceCases : List Case
+curvePlaceCases =
+    after (curve 25 0 1000 40 0 ∷ []) (answer 0 ∷ [])
+    ∷ after (curve 25 0 1000 40 0 ∷ curve 30 0 1000 40 0 ∷ []) (refused 13 ∷ [])
+    ∷ after (curve 25 0 1000 40 0 ∷ curve 12 0 500 60 0 ∷ []) (answer 0 ∷ [])
+    ∷ after (curve 25 0 1000 40 0 ∷ section 30 90 ∷ []) (answer 0 ∷ [])
+    ∷ after (curve 25 0 1000 40 0 ∷ curveEnd 12 ∷ curve 30 0 1000 40 0 ∷ []) (answer 0 ∷ [])
+    ∷ after (curve 25 0 1000 40 0 ∷ curveEnd 12 ∷ curve 30 0 1000 40 0 ∷ curve 31 0 1000 40 0 ∷ []) (refused 13 ∷ [])
+    -- 9 before 13
+    ∷ after (curve 25 0 1000 40 0 ∷ curve 30 0 1000 9 0 ∷ []) (refused 9 ∷ [])
+    ∷ []
+
+-- with the sections 10 to 24: an ending one is held "until the ground moved since reaches the train's length": 999 and 1,000 cm
+abbrev pub sectionPlaceCases : List Case
+sectionPlaceCases =
+    after (section 25 90 ∷ []) (answer 0 ∷ [])
+    ∷ after (section 25 90 ∷ section 30 90 ∷ []) (refused 13 ∷ [])
+    ∷ after (section 25 90 ∷ section 12 80 ∷ []) (answer 0 ∷ [])
+    ∷ after (section 25 90 ∷ curve 30 0 1000 40 0 ∷ []) (answer 0 ∷ [])
+    ∷ after (section 25 90 ∷ sectionEnd 12 ∷ section 30 90 ∷ []) (refused 13 ∷ [])
+    ∷ after (section 25 90 ∷ sectionEnd 12 ∷ moves 999 ∷ section 30 90 ∷ []) (refused 13 ∷ [])
+    ∷ after (section 25 90 ∷ sectionEnd 12 ∷ moves 999 ∷ moves 1 ∷ section 30 90 ∷ []) (answer 0 ∷ [])
+    ∷ after (section 25 90 ∷ sectionEnd 12 ∷ moves 1000 ∷ section 30 90 ∷ section 31 90 ∷ []) (refused 13 ∷ [])
+    ∷ []
+
+-- with none
+abbrev pub placeCases : List Case
+placeCases =
+    -- "The id to be ended isn't held, or its section is already ending"; curves and sections have ids of their own
+    after (curve 6 0 1000 40 0 ∷ curveEnd 6 ∷ []) (answer 0 ∷ [])
+    ∷ after (curve 6 0 1000 40 0 ∷ curveEnd 7 ∷ []) (refused 12 ∷ [])
+    ∷ after (curve 6 0 1000 40 0 ∷ sectionEnd 6 ∷ []) (refused 12 ∷ [])
+    ∷ after (curve 6 0 1000 40 0 ∷ curveEnd 6 ∷ curveEnd 6 ∷ []) (refused 12 ∷ [])
+    ∷ after (section 6 90 ∷ sectionEnd 6 ∷ []) (answer 0 ∷ [])
+    ∷ after (section 6 90 ∷ sectionEnd 7 ∷ []) (refused 12 ∷ [])
+    ∷ after (section 6 90 ∷ curveEnd 6 ∷ []) (refused 12 ∷ [])
+    ∷ after (section 6 90 ∷ sectionEnd 6 ∷ sectionEnd 6 ∷ []) (refused 12 ∷ [])
+    ∷ after (section 6 90 ∷ sectionEnd 6 ∷ section 6 90 ∷ sectionEnd 6 ∷ []) (answer 0 ∷ [])
+    -- "Ending a section at the front of the train": VMAX in DA
+    ∷ after (section 6 90 ∷ sectionEnd 6 ∷ moves 999 ∷ state 3 ∷ []) (vmax 90 ∷ [])
+    ∷ after (section 6 90 ∷ sectionEnd 6 ∷ moves 1000 ∷ state 3 ∷ []) (vmax 98 ∷ [])
+    ∷ after (section 6 90 ∷ moves 1000 ∷ sectionEnd 6 ∷ state 3 ∷ []) (vmax 90 ∷ [])
+    ∷ after (section 6 90 ∷ state 3 ∷ sectionEnd 6 ∷ moves 999 ∷ []) (vmax 90 ∷ [])
+    ∷ after (section 6 90 ∷ state 3 ∷ sectionEnd 6 ∷ moves 999 ∷ moves 1 ∷ []) (vmax 98 ∷ [])
+    -- told to end twice, its ground goes on; given again it stands, and its ground is 0 at the next end
+    ∷ after (section 6 90 ∷ sectionEnd 6 ∷ moves 600 ∷ sectionEnd 6 ∷ moves 400 ∷ state 3 ∷ []) (vmax 98 ∷ [])
+    ∷ after (section 6 90 ∷ sectionEnd 6 ∷ section 6 80 ∷ moves 1000 ∷ state 3 ∷ []) (vmax 80 ∷ [])
+    ∷ after (section 6 90 ∷ sectionEnd 6 ∷ moves 999 ∷ section 6 90 ∷ sectionEnd 6 ∷ moves 999 ∷ state 3 ∷ []) (vmax 90 ∷ [])
+    -- a report sent again moves nothing
+    ∷ after (section 6 90 ∷ sectionEnd 6 ∷ moves 600 ∷ again (moves 600) ∷ moves 399 ∷ state 3 ∷ []) (vmax 90 ∷ [])
+    ∷ []
+
+-- ---- refusals
+
+-- before any start
+abbrev pub firstCases : List Case
+firstCases =
+    -- 1 before 2, 3, 4 and 5
+    after (withArea 13 slowTrain ∷ []) (refused 1 ∷ [])
+    ∷ after (withArea 15 slowTrain ∷ []) (refused 1 ∷ [])
+    ∷ after (withArea 13 (bytes []) ∷ []) (refused 1 ∷ [])
+    ∷ after (withArea 0 (bytes (0x7F ∷ [])) ∷ []) (refused 1 ∷ [])
+    ∷ after (withArea 15 (bytes (0x02 ∷ [])) ∷ []) (refused 1 ∷ [])
+    ∷ after (withArea 13 (state 1) ∷ []) (refused 1 ∷ [])
+    -- 2; 3; 4 before 5
+    ∷ after (bytes [] ∷ []) (refused 2 ∷ [])
+    ∷ after (bytes (0x7F ∷ []) ∷ []) (refused 3 ∷ [])
+    ∷ after (bytes (0x00 ∷ 0 ∷ 0 ∷ 0 ∷ 1 ∷ []) ∷ []) (refused 3 ∷ [])
+    ∷ after (bytes (0x01 ∷ []) ∷ []) (refused 4 ∷ [])
+    ∷ after (bytes (0x02 ∷ 0 ∷ 0 ∷ 0 ∷ 1 ∷ []) ∷ []) (refused 4 ∷ [])
+    -- 5 before 6, 7, 9 and 10
+    ∷ after (halts ∷ []) (refused 5 ∷ [])
+    ∷ after (numbered 0 halts ∷ []) (refused 5 ∷ [])
+    ∷ after (numbered 9 halts ∷ []) (refused 5 ∷ [])
+    ∷ after (state 5 ∷ []) (refused 5 ∷ [])
+    ∷ after (stop 0 ∷ []) (refused 5 ∷ [])
+    -- 6 before 9; 9; a start takes any number but 0
+    ∷ after (numbered 0 slowTrain ∷ []) (refused 6 ∷ [])
+    ∷ after (numbered 0 tooLong ∷ []) (refused 6 ∷ [])
+    ∷ after (tooLong ∷ []) (refused 9 ∷ [])
+    ∷ after (tooLong ∷ halts ∷ []) (refused 5 ∷ [])
+    ∷ after (numbered 77 slowTrain ∷ []) (answer 0 ∷ [])
+    ∷ after (numbered 77 slowTrain ∷ numbered 78 halts ∷ []) (answer 0 ∷ [])
+    -- the number has four bytes
+    ∷ after (numbered 0x01020304 slowTrain ∷ numbered 0x01020305 halts ∷ []) (answer 0 ∷ [])
+    ∷ after (numbered 0x01020304 slowTrain ∷ numbered 0x01020405 halts ∷ []) (refused 7 ∷ [])
+    ∷ after (numbered 0x01020304 slowTrain ∷ numbered 0x01030305 halts ∷ []) (refused 7 ∷ [])
+    ∷ after (numbered 0x01020304 slowTrain ∷ numbered 0x02020305 halts ∷ []) (refused 7 ∷ [])
+    ∷ after (numbered 0x00FFFFFF slowTrain ∷ numbered 0x01000000 halts ∷ []) (answer 0 ∷ [])
+    -- "After number FFFFFFFF only a start is taken"
+    ∷ after (numbered 0xFFFFFFFE slowTrain ∷ numbered 0xFFFFFFFF halts ∷ []) (answer 0 ∷ [])
+    ∷ after (numbered 0xFFFFFFFF slowTrain ∷ numbered 0 halts ∷ []) (refused 6 ∷ [])
+    ∷ after (numbered 0xFFFFFFFF slowTrain ∷ numbered 1 halts ∷ []) (refused 7 ∷ [])
+    ∷ after (numbered 0xFFFFFFFF slowTrain ∷ numbered 0xFFFFFFFF halts ∷ []) (refused 7 ∷ [])
+    ∷ after (numbered 0xFFFFFFFF slowTrain ∷ numbered 0xFFFFFFFF slowTrain ∷ []) (answer 100 ∷ [])
+    ∷ after (numbered 0xFFFFFFFF slowTrain ∷ numbered 1 slowTrain ∷ []) (answer 0 ∷ [])
+    -- a start again, and another one with its number
+    ∷ after (slowTrain ∷ again slowTrain ∷ []) (answer 100 ∷ stateIs 0 ∷ [])
+    ∷ after (slowTrain ∷ state 1 ∷ numbered 1 slowTrain ∷ []) (answer 0 ∷ stateIs 0 ∷ [])
+    ∷ after (slowTrain ∷ again fastTrain ∷ []) (answer 0 ∷ [])
+    -- 10 before 11; 11: there is no reference pressure
+    ∷ after (slowTrain ∷ state 1 ∷ state 3 ∷ []) (refused 10 ∷ [])
+    ∷ after (slowTrain ∷ state 3 ∷ []) (refused 11 ∷ [])
+    ∷ after (slowTrain ∷ state 1 ∷ state 2 ∷ state 3 ∷ []) (refused 11 ∷ [])
+    ∷ after (slowTrain ∷ state 1 ∷ state 2 ∷ curve 3 0 1000 40 0 ∷ []) (answer 0 ∷ [])
+    ∷ []
+
+-- a slow train in HS
+abbrev pub laterCases : List Case
+laterCases =
+    -- 6 before 7; 7 before 9, 10 and 12
+    after (numbered 0 halts ∷ []) (refused 6 ∷ [])
+    ∷ after (again halts ∷ []) (refused 7 ∷ [])
+    ∷ after (skipping halts ∷ []) (refused 7 ∷ [])
+    ∷ after (skipping (state 5) ∷ []) (refused 7 ∷ [])
+    ∷ after (skipping (stop 0) ∷ []) (refused 7 ∷ [])
+    ∷ after (skipping (curveEnd 7) ∷ []) (refused 7 ∷ [])
+    -- 9 before 10 and 12
+    ∷ after (stop 3 ∷ []) (refused 9 ∷ [])
+    ∷ after (stop 2 ∷ []) (refused 10 ∷ [])
+    ∷ after (curveEnd 255 ∷ []) (refused 9 ∷ [])
+    -- 10 before 12
+    ∷ after (state 1 ∷ curveEnd 7 ∷ []) (refused 10 ∷ [])
+    -- in FA: 6, 7, 8 before 9, 10 and 12; a repeat; a start
+    ∷ after (state 4 ∷ numbered 0 halts ∷ []) (refused 6 ∷ [])
+    ∷ after (state 4 ∷ skipping halts ∷ []) (refused 7 ∷ [])
+    ∷ after (state 4 ∷ halts ∷ []) (refused 8 ∷ [])
+    ∷ after (state 4 ∷ state 5 ∷ []) (refused 8 ∷ [])
+    ∷ after (state 4 ∷ stop 0 ∷ []) (refused 8 ∷ [])
+    ∷ after (state 4 ∷ curveEnd 7 ∷ []) (refused 8 ∷ [])
+    ∷ after (state 4 ∷ again (state 4) ∷ []) (answer 100 ∷ stateIs 4 ∷ order 3 ∷ [])
+    ∷ after (state 4 ∷ tooLong ∷ []) (refused 9 ∷ [])
+    ∷ after (state 4 ∷ slowTrain ∷ []) (answer 0 ∷ stateIs 0 ∷ order 0 ∷ [])
+    -- "100 again .. This is the answer once 1–8 are passed; 9–13 don't judge a repeat": for it 10, 10 and 12 would apply
+    ∷ after (state 1 ∷ again (state 1) ∷ []) (answer 100 ∷ stateIs 1 ∷ [])
+    ∷ after (state 3 ∷ again (state 3) ∷ []) (answer 100 ∷ stateIs 3 ∷ [])
+    ∷ after (curve 7 0 1000 40 0 ∷ curveEnd 7 ∷ again (curveEnd 7) ∷ []) (answer 100 ∷ [])
+    ∷ after (section 7 90 ∷ sectionEnd 7 ∷ again (sectionEnd 7) ∷ []) (answer 100 ∷ [])
+    ∷ after (withArea 13 (again (state 2)) ∷ []) (refused 1 ∷ [])
+    -- the same report, again and again; the number, or a byte, of another
+    ∷ after (state 3 ∷ stop 1 ∷ again (stop 1) ∷ again (stop 1) ∷ []) (answer 100 ∷ causes (6 ∷ 7 ∷ []) ∷ vmax 40 ∷ [])
+    ∷ after (state 1 ∷ state 2 ∷ again (again (state 1)) ∷ []) (refused 7 ∷ [])
+    ∷ after (state 1 ∷ again (state 2) ∷ []) (refused 7 ∷ [])
+    ∷ after (halts ∷ again (atSpeed 0 loss) ∷ []) (refused 7 ∷ [])
+    ∷ after (state 1 ∷ again proceed ∷ []) (refused 7 ∷ [])
+    -- "A refusal .. doesn't use up its number", and a refused command in between does not matter
+    ∷ after (state 0 ∷ state 1 ∷ []) (answer 0 ∷ [])
+    ∷ after (state 1 ∷ state 1 ∷ skipping halts ∷ bytes [] ∷ again (state 1) ∷ []) (answer 100 ∷ stateIs 1 ∷ [])
+    ∷ after (tooLong ∷ curve 7 0 1000 40 0 ∷ []) (answer 0 ∷ stateIs 2 ∷ [])
+    ∷ []
+
+-- ---- all of them
+
+-- the cases of a unit that further commands lead to
+abbrev pub holdAfter : Stm → List Command → List Case → List Bool
+holdAfter stm commands cases = map (holds (further stm commands)) cases
+
+-- a slow train in HS, in DA; a fast one in DA
+abbrev pub slowInHS : Stm → List Bool
+slowInHS stm =
+    map (holds stm) (placeCases ++ laterCases)
+    ++ holdAfter stm (map (λ id. curve id 0 1000 40 0) fifteen) curvePlaceCases
+    ++ holdAfter stm (map (λ id. section id 90) fifteen) sectionPlaceCases
+
+abbrev pub slowInDA : Stm → List Bool
+slowInDA stm =
+    map (holds stm) (speedCases ++ stopCases ++ rollingCases ++ curveCases)
+    ++ holdAfter stm (halts ∷ []) haltedCases
+    ++ holdAfter stm (halts ∷ rolls 501 ∷ []) rolledCases
+    ++ holdAfter stm (approaches 0 59574 1000 0) pastCases
+    ++ slowInHS (further stm (state 1 ∷ state 2 ∷ []))
+
+abbrev pub fastInDA : Stm → List Bool
+fastInDA stm =
+    map (holds stm) (orderCases ++ softCases)
+    ++ holdAfter stm (replicate 3 (tooFast 1000)) serviceCases
+    ++ holdAfter stm (baliseError ∷ halts ∷ halts ∷ []) errorCases
+    ++ holdAfter stm (stop 0 ∷ halts ∷ []) emergencyCases
+    ++ holdAfter stm (stop 2 ∷ halts ∷ []) landslideCases
+
+unfoldable pub cases : List Bool
+cases =
+    slowInDA (inDA slowTrain)
+    ++ fastInDA (inDA fastTrain)
+    ++ holdAfter freshStm (cylinderTrain ∷ replicate 31 (withPressure 0) ++ (state 3 ∷ replicate 3 (tooFast 0))) cylinderCases
+    ++ holdAfter freshStm (slowTrain ∷ replicate 30 halts) settlingCases
+    ++ holdAfter freshStm (slowTrain ∷ halts ∷ withPressure 799 ∷ replicate 29 (withPressure 800)) waitingCases
+    ++ holdAfter (withReference slowTrain) (replicate 9 (withPressure 940)) referenceCases
+    ++ map (holds freshStm) firstCases
+
+abbrev pub CasesHold : Type 0
+CasesHold = foldr _&&_ true cases ≡ true
