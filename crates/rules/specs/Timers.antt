@@ -63,7 +63,7 @@ pub record OrderStands (ordered : Stm → Bool) (stm : Stm) (x : Sent) (ys : Lis
 abbrev pub failsWith : ℕ → List Bool → Bool → Bool
 failsWith limit drops now = eqb (length drops + 1) limit && not (now || anyOf (λ drop. drop) drops)
 
--- bit 11 is ordered at the T_B-th report and at no other, if neither it nor one before it brings the drop
+-- bit 11 is ordered at the T_B-th report and at no other, if neither it nor one before it brings the drop; "T_B 1, 1–100"
 abbrev pub ServiceFaultAtLimit : Type 0
 ServiceFaultAtLimit =
     (stm : Stm) (x : Sent) (ys : List Sent) (z : Sent)
@@ -73,7 +73,8 @@ ServiceFaultAtLimit =
     → orderedNow last (z .command) Cause.ServiceFault
     ≡ failsWith (last .train .times .brake) (dropsOver (stateAfter stm x) ys) (hasDrop (stateAfter last z))
 
--- "An emergency order without a 60 kPa drop by T_EBCHK shows NÖDBROMSFEL and leads to FA", and no other report does
+-- "An emergency order without a 60 kPa drop by T_EBCHK shows NÖDBROMSFEL and leads to FA", and no other report does; a unit in DA
+-- does not show it yet
 abbrev pub EmergencyFaultAtLimit : Type 0
 EmergencyFaultAtLimit =
     (stm : Stm) (x : Sent) (ys : List Sent) (z : Sent)
