@@ -26,7 +26,7 @@ use Rattle.rules.specs.declared.Stm.{Stm}
 use Rattle.rules.proofs.Answers.{passed}
 use Rattle.rules.proofs.Tests.{impossible, second-fails}
 use Rattle.rules.proofs.Told.{code-is}
-use Rattle.rules.proofs.Ordering.{stands-for, brakes-after, doneBy}
+use Rattle.rules.proofs.Ordering.{stands-for, brakes-after, doneBy, entered-keeps}
 use Rattle.rules.proofs.After.{control-after, train-after, track-after, feedback-after, kept-after, track-entered}
 
 -- ---- nothing held
@@ -100,13 +100,6 @@ told-cs n other = rw (ne-eqb n 1 other) (go (eqb n 0) (eqb n 2) (eqb n 3))
     go false false true = refl
     go false false false = refl
 
-entered-brakes : (state : State) (stm : Stm) → isState State.CS state ≡ false → entered state stm .brakes ≡ stm .brakes
-entered-brakes State.DE stm f = refl
-entered-brakes State.CS stm f = impossible (sym f)
-entered-brakes State.HS stm f = refl
-entered-brakes State.DA stm f = refl
-entered-brakes State.FA stm f = refl
-
 pub entering-cs : EnteringCS
 unfolding stateOf
 entering-cs stm x e c =
@@ -117,7 +110,7 @@ entering-cs stm x e c =
           (brakes ∙ ap (λ k. entered (stateOf k) stm .brakes) is),
       λ other. (
         track ∙ track-entered (stateOf n) stm (told-cs n other),
-        brakes ∙ entered-brakes (stateOf n) stm (told-cs n other),
+        brakes ∙ entered-keeps (stateOf n) stm (told-cs n other),
       ),
     )
 

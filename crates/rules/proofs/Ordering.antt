@@ -177,7 +177,7 @@ pub data ByOther (code : Code) (which : ℕ) (before after : Brakes) : Type 0 wh
   unchanged : causesFor (orderedBy code which) ≡ causesFor (λ each. false) → after ≡ before → ByOther code which before after
   orders : after ≡ brakesBy code which before → ByOther code which before after
 
-entered-keeps : (state : State) (stm : Stm) → isState State.CS state ≡ false → entered state stm .brakes ≡ stm .brakes
+pub entered-keeps : (state : State) (stm : Stm) → isState State.CS state ≡ false → entered state stm .brakes ≡ stm .brakes
 entered-keeps State.DE stm f = refl
 entered-keeps State.CS stm f = absurd (false≢true (sym f))
 entered-keeps State.HS stm f = refl

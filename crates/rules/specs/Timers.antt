@@ -84,7 +84,7 @@ EmergencyFaultAtLimit =
     1 ≤ last .train .check → last .brakes .failed ≡ false
     → (stateAfter last z .brakes .failed ≡ fails) × (isIn State.FA (stateAfter last z) ≡ fails)
 
--- with no emergency order before it a report leads to no fault
+-- a report that finds no order does not order bit 11, and one that finds no emergency order does not bring NÖDBROMSFEL
 abbrev pub NoFaultWithoutOrder : Type 0
 NoFaultWithoutOrder =
     (stm : Stm) (x : Sent)
