@@ -9,7 +9,7 @@ use Rattle.wire.specs.Form.{formOf, operandPart, operandsOf}
 use Rattle.rules.specs.Numbers.{isAccepted, isAnswered, codeOf}
 use Rattle.rules.specs.Operands.{codeByte}
 use Rattle.rules.specs.Commands.{carriedOut, remembered, acceptedOf}
-use Rattle.rules.specs.Refusals.{answerFor, answerOf}
+use Rattle.rules.specs.Refusals.{wholeAnswer, answerFor, answerOf}
 use Rattle.rules.specs.Calls.{callOf}
 use Rattle.rules.specs.declared.Answer.{Answer}
 use Rattle.rules.specs.declared.Stm.{Stm}
@@ -18,7 +18,7 @@ use Rattle.rules.proofs.Tests.{impossible}
 
 -- an accepted command is whole, and its operands are what follows its number
 part-accepted : (form : Form) (stm : Stm) (command : List ℕ)
-    → isAccepted (answerFor form stm command) ≡ true → operandPart form command ≡ drop 5 command
+    → isAccepted (answerFor form (wholeAnswer stm command)) ≡ true → operandPart form command ≡ drop 5 command
 unfolding operandPart
 part-accepted Form.WrongArea stm command e = impossible e
 part-accepted Form.NoBytes stm command e = impossible e

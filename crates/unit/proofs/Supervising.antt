@@ -4,6 +4,7 @@ use mathlib.Core.Path.{_≡_, refl, sym, ap, ap₂, _∙_}
 use Prim.Native.Nat.{ℕ}
 use mathlib.Core.Bool.{Bool, true, false, cond}
 use mathlib.Core.List.{List, [], _∷_, zipWith}
+use Rattle.wire.specs.Codes.{longest}
 use Rattle.pressure.specs.declared.Measured.{Measured}
 use Rattle.pressure.specs.Report.{reported}
 use Rattle.curve.specs.declared.Curve.{Curve}
@@ -21,7 +22,7 @@ use Rattle.rules.specs.Checks.{isDrop}
 use Rattle.rules.specs.Releases.{isRolled, notedBrakes, addedBrakes, leftBrakes, releasedBrakes}
 use Rattle.rules.specs.Odometer.{withState, withBrakes, seenWith, seenOf, seenIn, moves, keptOf, measures, notedTrack, notes, adds, releases, isFresh, supervised}
 use Rattle.rules.specs.Reports.{reportOf}
-use Rattle.rules.specs.Commands.{longest, padded, withLast, remembered}
+use Rattle.rules.specs.Commands.{padded, withLast, remembered}
 use Rattle.rules.specs.declared.State.{State}
 use Rattle.rules.specs.declared.Train.{Train}
 use Rattle.rules.specs.declared.Track.{Track}
