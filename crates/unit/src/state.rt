@@ -6,7 +6,6 @@ use curve::Times;
 use pressure::Feed;
 use pressure::Measured;
 use pressure::Pressures;
-use refusals::LONGEST;
 use rules::Control;
 use rules::Kept;
 use rules::Last;
@@ -14,6 +13,7 @@ use rules::State;
 use rules::Stm;
 use rules::Train;
 use track::whole::fresh_track;
+use wire::LONGEST;
 use wire::REPORT_LENGTH;
 
 fn fresh_feedback() -> Measured
