@@ -1,11 +1,9 @@
 #!/usr/bin/env python3
 """Checks that the recorded runs have what docs/TRACE.md says of them.
 
-    coverage.py [FOLDER]
-
-FOLDER has stdin and stdout of a stream, by default crates/trips_run. Each command is read beside its line, and beside the
-picture that tests/trips.py keeps of a unit. The tables here are written from document 01. The exit status is 1 if
-something claimed was not met, or if an answer or a report is not as the tables and the picture have it.
+Of crates/trips_run each command is read beside its line, and beside the picture that tests/trips.py keeps of a unit. Of
+crates/answers_run each record is read beside its line. The tables here are written from document 01. The exit status is 1
+if something claimed is not met, or if an answer or a report is not as the tables and the picture have it.
 """
 
 import os
@@ -109,7 +107,7 @@ def claims():
         "a proceed signal ends the 40", "permitted speed is VMAX", "permitted speed below VMAX"]
     yield "Causes and release", [f"report in {name}" for name in ("DE", "CS", "HS", "DA")] + [
         "ground in HS under a curve", "DA entered at VMAX+10", "LOSS held from before DA releases nothing",
-        "past in B noted", "B in HS, no past", "past in B kept by a replaced curve", "30 0 adds 5", "30 1 adds 6 and 7",
+        "past in B noted", "in B in HS, then A or Bf in DA", "past in B kept by a replaced curve", "30 0 adds 5", "30 1 adds 6 and 7",
         "30 2 adds 8", "32 adds 9", "since of 5 starts again", "since of 6 starts again", "since of 8 starts again"] + [
         f"bit {bit} alone" for bit in range(12) if bit not in NEVER_ALONE] + [
         f"bit {bit} alone, flag bit 0 {flag}: order {order}" for bit in range(12) if STRENGTHS[bit] in "SF"
@@ -139,6 +137,10 @@ def claims():
         "shown by interval", "shown by interval, not the lowest permitted", "shown by permitted speed, not the lowest id",
         "shown by id", "another command changes the interval shown", "another command changes VMAX",
         "another command changes the offer", "a curve given in F, no cause"]
+    yield "Areas", [f"area written at {n}" for n in (0, 100)] + [f"area left alone at {n}" for n in range(1, 14)] + [
+        f"area of {n} bytes: 1" for n in (0, 12, 13, 15, 32)] + [f"1 before {n}" for n in (2, 3, 4)] + [
+        f"area left alone at {words}" for words in ("12 of a curve", "12 of a section", "12 of an ending section",
+                                                    "13 of a curve", "13 of a section")]
 
 
 class Coverage:
@@ -163,8 +165,6 @@ class Coverage:
         self.report = None
         self.refused_numbers = set()
         self.refused_since = False
-        self.halted = False
-        self.neutral_ground = 0
         at_byte = 0
         for self.line, text in enumerate(lines, 1):
             length = LENGTHS.get(stream[at_byte], 0)
@@ -306,12 +306,8 @@ class Coverage:
         self.see("a refused number accepted", code != 0x01 and number in self.refused_numbers)
         self.refused_numbers.clear()
         self.see("FFFFFFFF accepted", number == LAST and code != 0x01)
-        self.written(report)
         if code == 0x01:
-            self.freed = {"curves": False, "sections": False}
-            self.running = self.begun_with_drop = self.geared = self.dropped_10 = self.faulted = False
-            self.since_order = self.since_emergency = self.since_fault = 0
-            self.loss_before_da = False
+            self.afresh()
             self.see("start over curves, sections and causes",
                      before and before.curves and before.sections and before.causes and before.state == DA)
         elif code == 0x02:
@@ -322,21 +318,30 @@ class Coverage:
             self.told(code, operands, before, report)
         if unit.state in (DA, FA):
             self.braking(code, before, report)
-        self.old_vmax = unit.vmax
+        self.written(report)
+
+    def afresh(self):
+        """What is remembered beside the picture, after a start or CS."""
+        self.freed_curve = self.freed_section = False
+        self.left = []
+        self.b_in_hs = set()
+        self.halted = self.geared = self.dropped_10 = False
+        self.neutral_ground = 0
+        self.begun_with_drop = self.faulted = self.loss_before_da = False
+        self.since_order = self.since_emergency = self.since_fault = 0
 
     def entered(self, before, report):
         unit = self.unit
         if unit.state == CS:
-            self.see("CS with curves", before.curves)
-            self.see("CS with sections", before.sections)
-            self.see("CS with causes", before.causes)
-            self.see("CS with the 40", before.forty)
-            self.see("CS with a check running", before.service is not None or before.emergency is not None)
-            self.see("CS with ground rolled", before.rolled)
-            self.freed = {"curves": False, "sections": False}
-            self.left_da = before.state == DA
+            self.afresh()
+            self.left = [claim for claim, met in (
+                ("CS with curves", before.curves), ("CS with sections", before.sections), ("CS with causes", before.causes),
+                ("CS with the 40", before.forty), ("CS with ground rolled", before.rolled),
+                ("CS with a check running", before.service is not None or before.emergency is not None),
+                ("CS and back to DA with the old reference", before.state == DA)) if met]
         if unit.state == DA:
-            self.see("CS and back to DA with the old reference", before.state == HS and getattr(self, "left_da", False))
+            for claim in self.left:
+                self.see(claim)
             self.see("DA entered at VMAX+10", unit.v >= at(unit.vmax + 10) and report[2:4] == b"\0\0")
             self.loss_before_da = bool(unit.buttons & LOSS)
 
@@ -347,18 +352,19 @@ class Coverage:
             held = before.curves.get(ident)
             self.see("a held curve replaced", held)
             self.see("a held curve with a past replaced", held and held["past"])
-            self.see("a freed curve's place used", not held and self.freed["curves"] and len(unit.curves) == 16)
+            self.see("a freed curve's place used", not held and self.freed_curve and len(unit.curves) == 16)
             self.see("past in B kept by a replaced curve",
                      held and held["past"] and unit.state == DA and report[8] == ident and report[9] == 2)
             self.see("a curve given in F, no cause", unit.state == DA and report[8:10] == bytes([ident, 8])
                      and not report[3] & 0b11100)
         elif code == 0x21:
             self.see("a curve removed by 21")
-            self.freed["curves"] = self.freed["curves"] or len(before.curves) == 16
+            self.b_in_hs.discard(ident)
+            self.freed_curve = self.freed_curve or len(before.curves) == 16
         elif code == 0x22:
             held = before.sections.get(ident)
             self.see("an ending section stands again", held and held[1] is not None)
-            self.see("a freed section's place used", not held and self.freed["sections"] and len(unit.sections) == 16)
+            self.see("a freed section's place used", not held and self.freed_section and len(unit.sections) == 16)
         elif code == 0x30:
             kind = ident
             added = (1 << 5, 1 << 6 | 1 << 7, 1 << 8)[kind]
@@ -389,7 +395,8 @@ class Coverage:
         if before.state == HS:
             for ident, c in unit.curves.items():
                 self.see("ground in HS under a curve", before.curves[ident]["d"] > c["d"])
-                self.see("B in HS, no past", unit.interval(c, v) in ("B", "C", "D", "E", "F") and not c["past"])
+                if unit.interval(c, v) not in ("A", "Bf") and not c["past"]:
+                    self.b_in_hs.add(ident)
         if before.state != DA:
             return
         self.see("reports in DA, " + ("cylinder" if unit.train["flags"] & 2 else "pipe"))
@@ -411,7 +418,7 @@ class Coverage:
                 self.see("ending section 1 cm before the length", on == length - 1)
                 self.see("section gone at the length", on == length)
                 if on >= length and len(before.sections) == 16:
-                    self.freed["sections"] = True
+                    self.freed_section = True
 
     def limits_in_da(self, before, v, report):
         unit = self.unit
@@ -561,6 +568,7 @@ class Coverage:
         self.see(f"interval, bar, mode: {INTERVALS[report[9]]}, {report[10]}, {report[11]}")
         self.expect((report[8] == 255) == (not unit.curves), "a curve is shown where one is held")
         if unit.curves:
+            self.see("in B in HS, then A or Bf in DA", report[8] in self.b_in_hs and report[9] in (1, 3))
             self.see("a curve shown at d 0", unit.curves[report[8]]["d"] == 0)
             self.shown(report[8])
 
@@ -605,6 +613,33 @@ class Coverage:
         else:
             self.see("shown by id")
 
+    # -- areas
+
+    def areas(self, records, lines):
+        """The records of crates/answers_run: area, length, and 32 bytes of which the command is the first."""
+        given = set()
+        for self.line, text in enumerate(lines, 1):
+            record = records[34 * (self.line - 1):34 * self.line]
+            area, command = record[0], record[2:2 + record[1]]
+            _, answer, _, held, _, part = text.split(" ")
+            answer = int(answer)
+            left = held == "AA" * area
+            self.expect(left == (answer not in (0, 100)), "a refusal leaves the area alone, an answer writes it")
+            self.expect(part == ("" if 1 <= answer <= 4 else command[5:].hex().upper()), "the operand part")
+            self.see(f"area {'left alone' if left else 'written'} at {answer}")
+            code = command[0] if command else None
+            if answer == 0:
+                given = given | {command[5]} if code == 0x22 else set() if code in (0x01, 0x02) else given
+            elif answer == 1:
+                self.see(f"area of {area} bytes: 1")
+                if code not in LENGTHS or len(command) != LENGTHS[code]:
+                    self.see(f"1 before {2 if code is None else 4 if code in LENGTHS else 3}")
+            elif answer == 12:
+                kind = "a curve" if code == 0x21 else "an ending section" if command[5] in given else "a section"
+                self.see(f"area left alone at 12 of {kind}")
+            elif answer == 13:
+                self.see(f"area left alone at 13 of a {'curve' if code == 0x20 else 'section'}")
+
     # -- the verdict
 
     def tell(self):
@@ -642,17 +677,22 @@ def in_range(code, operands):
     return True
 
 
-def main(arguments):
-    folder = arguments[0] if arguments else os.path.join(os.path.dirname(os.path.abspath(__file__)), "../crates/trips_run")
+def recorded(program):
+    folder = os.path.join(os.path.dirname(os.path.abspath(__file__)), "..", "crates", program)
     with open(os.path.join(folder, "stdin"), "rb") as file:
-        stream = file.read()
-    with open(os.path.join(folder, "stdout")) as file:
-        lines = file.read().splitlines()
+        given = file.read()
+    with open(os.path.join(folder, "stdout"), encoding="utf-8") as file:
+        return given, file.read().splitlines()
+
+
+def main():
     coverage = Coverage()
-    coverage.read(stream, lines)
-    print(f"{len(lines)} commands")
+    coverage.read(*recorded("trips_run"))
+    print(f"{coverage.line} lines of trips_run")
+    coverage.areas(*recorded("answers_run"))
+    print(f"{coverage.line} lines of answers_run")
     return coverage.tell()
 
 
 if __name__ == "__main__":
-    sys.exit(main(sys.argv[1:]))
+    sys.exit(main())
