@@ -11,6 +11,7 @@ import struct
 import sys
 from collections import Counter, namedtuple
 
+sys.dont_write_bytecode = True
 sys.path.insert(0, os.path.dirname(os.path.abspath(__file__)))
 import curve as curves  # noqa: E402
 from trips import Picture, at, upto  # noqa: E402
@@ -125,7 +126,7 @@ def claims():
         "500 cm rolled", "501 cm rolled: bit 10", "over 500 cm rolled in DA before a halt",
         "over 500 cm from 0 after a drop of bit 10", "over 500 cm after gear",
         "DRIFTBROMSFEL without bit 11", "DRIFTBROMSFEL gone with the last cause", "DRIFTBROMSFEL in FA",
-        "bit 11 at the T_B-th report", "FA at the T_EBCHK-th report", "FA by both checks at one report",
+        "bit 11 at the T_B-th report", "FA at the T_EBCHK-th report", "FA by the emergency check alone", "FA by both checks at one report",
         "FA at a fresh LOSS that would release all", "bit 11 begins the emergency check",
         "service check satisfied at its limit", "emergency check satisfied at its limit", "a drop of 60 satisfies",
         "a drop of 59.5 doesn't", "a drop at the beginning doesn't count", "a check begun by a command",
@@ -137,10 +138,14 @@ def claims():
         "shown by interval", "shown by interval, not the lowest permitted", "shown by permitted speed, not the lowest id",
         "shown by id", "another command changes the interval shown", "another command changes VMAX",
         "another command changes the offer", "a curve given in F, no cause"]
+    yield "Figures", [
+        "VMAX 100: 3,055 no order", "VMAX 100: 3,056 bit 0", "VMAX 100: 2,916 offered", "VMAX 100: 2,917 not offered",
+        "P_FULL 380: 956 kPa gives 500 and the message", "full 700: 490 measured frees bit 6", "full 700: 489 doesn't"]
     yield "Areas", [f"area written at {n}" for n in (0, 100)] + [f"area left alone at {n}" for n in range(1, 14)] + [
         f"area of {n} bytes: 1" for n in (0, 12, 13, 15, 32)] + [f"1 before {n}" for n in (2, 3, 4)] + [
         f"area left alone at {words}" for words in ("12 of a curve", "12 of a section", "12 of an ending section",
-                                                    "13 of a curve", "13 of a section")]
+                                                    "13 of a curve", "13 of a section")] + [
+        "a refused number accepted, with an area"]
 
 
 class Coverage:
@@ -390,6 +395,8 @@ class Coverage:
         self.see(f"report in {STATES[before.state]}")
         if unit.reference is not None and before.reference is None and before.state in (DE, CS, HS):
             self.see(f"reference set in {STATES[before.state]}")
+        if unit.train["flags"] & 2 and unit.train["p_full"] == 380:
+            self.see("P_FULL 380: 956 kPa gives 500 and the message", half == 1912 and unit.p_int == 500 and report[12] & 4)
         if before.state in (HS, DA):
             self.grounds(before, moved, report)
         if before.state == HS:
@@ -407,6 +414,19 @@ class Coverage:
             self.pressed(before, v, moved, buttons, report)
             self.rolled(before, v, moved, buttons, report)
         self.checks(before, buttons)
+        self.figures(before, v, measured, report)
+
+    def figures(self, before, v, measured, report):
+        """01's figures on orders and releases."""
+        unit = self.unit
+        if unit.vmax == 100 and unit.state == DA:
+            self.see("VMAX 100: 3,055 no order", v == 3055 and not unit.causes)
+            self.see("VMAX 100: 3,056 bit 0", v == 3056 and unit.causes == 1)
+            self.see("VMAX 100: 2,916 offered", v == 2916 and unit.causes == 1 and report[13] == 1)
+            self.see("VMAX 100: 2,917 not offered", v == 2917 and unit.causes == 1 and report[13] == 0)
+        if before.causes >> 6 & 1 and 6 not in before.since and unit.train["full"] == 700:
+            self.see("full 700: 490 measured frees bit 6", measured == 490 and 6 in unit.since)
+            self.see("full 700: 489 doesn't", measured == 489 and 6 not in unit.since)
 
     def grounds(self, before, moved, report):
         unit = self.unit
@@ -509,7 +529,7 @@ class Coverage:
         if unit.state == FA:
             self.expect(self.since_emergency == t_ebchk, "NÖDBROMSFEL comes at the T_EBCHK-th report")
             self.see("FA at the T_EBCHK-th report")
-            self.see("FA by both checks at one report", fault)
+            self.see("FA by both checks at one report" if fault else "FA by the emergency check alone")
             fresh = buttons & ~before.buttons
             left = unit.causes & ~unit.releasable(unit.v, any(unit.brakes(c, unit.v) for c in unit.curves.values()))
             self.see("FA at a fresh LOSS that would release all", fresh & LOSS and not left)
@@ -617,7 +637,7 @@ class Coverage:
 
     def areas(self, records, lines):
         """The records of crates/answers_run: area, length, and 32 bytes of which the command is the first."""
-        given = set()
+        given, refused, last = set(), set(), None
         for self.line, text in enumerate(lines, 1):
             record = records[34 * (self.line - 1):34 * self.line]
             area, command = record[0], record[2:2 + record[1]]
@@ -628,6 +648,12 @@ class Coverage:
             self.expect(part == ("" if 1 <= answer <= 4 else command[5:].hex().upper()), "the operand part")
             self.see(f"area {'left alone' if left else 'written'} at {answer}")
             code = command[0] if command else None
+            if answer in (0, 100):
+                self.expect(answer == 0 or held == last, "the report of a repeat is the last one")
+                self.see("a refused number accepted, with an area", command[1:5] in refused and code != 0x01)
+                refused, last = set(), held
+            elif answer > 4:
+                refused.add(command[1:5])
             if answer == 0:
                 given = given | {command[5]} if code == 0x22 else set() if code in (0x01, 0x02) else given
             elif answer == 1:
