@@ -13,8 +13,8 @@ from collections import Counter, namedtuple
 
 sys.dont_write_bytecode = True
 sys.path.insert(0, os.path.dirname(os.path.abspath(__file__)))
-import curve as curves  # noqa: E402
-from trips import Picture, at, upto  # noqa: E402
+import curve as curves
+from trips import Picture, at, upto
 
 LAST = 0xFFFFFFFF
 DE, CS, HS, DA, FA = range(5)
@@ -30,7 +30,7 @@ OPERANDS = [
     Operand(0x01, "train speed", 1, "H", (10, 300), (9, 301)),
     Operand(0x01, "length", 3, "H", (10, 1000), (9, 1001)),
     Operand(0x01, "full deceleration", 5, "H", (400, 2000), (399, 2001)),
-    Operand(0x01, "soft deceleration", 7, "H", (400,), (399,)),  # up to full: see soft_is_good
+    Operand(0x01, "soft deceleration", 7, "H", (400,), (399,)),  # up to full: see in_range
     Operand(0x01, "T_B", 9, "B", (1, 100), (0, 101)),
     Operand(0x01, "gC", 10, "B", (0, 200), (201,)),
     Operand(0x01, "gP", 11, "B", (0, 200), (201,)),
@@ -108,7 +108,8 @@ def claims():
         "a proceed signal ends the 40", "permitted speed is VMAX", "permitted speed below VMAX"]
     yield "Causes and release", [f"report in {name}" for name in ("DE", "CS", "HS", "DA")] + [
         "ground in HS under a curve", "DA entered at VMAX+10", "LOSS held from before DA releases nothing",
-        "past in B noted", "in B in HS, then A or Bf in DA", "past in B kept by a replaced curve", "30 0 adds 5", "30 1 adds 6 and 7",
+        "past in B noted", "in B in HS, then A or Bf in DA", "past in B kept by a replaced curve",
+        "30 0 adds 5", "30 1 adds 6 and 7",
         "30 2 adds 8", "32 adds 9", "since of 5 starts again", "since of 6 starts again", "since of 8 starts again"] + [
         f"bit {bit} alone" for bit in range(12) if bit not in NEVER_ALONE] + [
         f"bit {bit} alone, flag bit 0 {flag}: order {order}" for bit in range(12) if STRENGTHS[bit] in "SF"
@@ -126,7 +127,8 @@ def claims():
         "500 cm rolled", "501 cm rolled: bit 10", "over 500 cm rolled in DA before a halt",
         "over 500 cm from 0 after a drop of bit 10", "over 500 cm after gear",
         "DRIFTBROMSFEL without bit 11", "DRIFTBROMSFEL gone with the last cause", "DRIFTBROMSFEL in FA",
-        "bit 11 at the T_B-th report", "FA at the T_EBCHK-th report", "FA by the emergency check alone", "FA by both checks at one report",
+        "bit 11 at the T_B-th report", "FA at the T_EBCHK-th report", "FA by the emergency check alone",
+        "FA by both checks at one report",
         "FA at a fresh LOSS that would release all", "bit 11 begins the emergency check",
         "service check satisfied at its limit", "emergency check satisfied at its limit", "a drop of 60 satisfies",
         "a drop of 59.5 doesn't", "a drop at the beginning doesn't count", "a check begun by a command",
@@ -267,7 +269,8 @@ class Coverage:
                     if value in o.good:
                         self.see(f"{code:02X} {o.name} {value}", answer == (10 if (o.name, value) == ("state", DE) else 0))
                     elif value in o.bad:
-                        self.see(f"{code:02X} {o.name} {value}", answer == 9 and in_range(code, placed(o, operands, o.good[-1])))
+                        alone = in_range(code, placed(o, operands, o.good[-1]))
+                        self.see(f"{code:02X} {o.name} {value}", answer == 9 and alone)
             if code == 0x01:
                 full, soft = struct.unpack(">HH", operands[5:9])
                 self.see("01 soft deceleration = full", soft == full and answer == 0)

@@ -86,12 +86,6 @@ def settle():
         put(odometer())
 
 
-def into_da(**changes):
-    put(start(**changes))
-    settle()
-    put(state(DA))
-
-
 # ---------------------------------------------------------------- operands
 
 
@@ -132,7 +126,7 @@ def limits_of_odometer():
 
 
 def limits_of_track():
-    """In DA, so that the report shows each; then in HS."""
+    """In DA, where the report shows each."""
     for ident in (0, 254):
         put(curve(ident))
         put(section(ident))
