@@ -79,10 +79,10 @@ abbrev pub notedIn : Train → Kept → Curve → Curve
 notedIn train kept curve = notedAt curve (judgedOf (brakingOf train (kept .halka)) (kept .speed) curve .interval)
 
 -- and a place with what it holds
-abbrev notedPlace : Train → Kept → Curve → Curve
+abbrev pub notedPlace : Train → Kept → Curve → Curve
 notedPlace train kept curve = notedHere curve (judgedHere (brakingOf train (kept .halka)) (kept .speed) curve)
 
-noted-curves : (train : Train) (kept : Kept) (track : Track)
+pub noted-curves : (train : Train) (kept : Kept) (track : Track)
     → notedTrack train kept track .curves ≡ map (notedPlace train kept) (track .curves)
 unfolding notedTrack judgedNow
 noted-curves train kept track =

@@ -19,6 +19,7 @@ pub mod Rolling
 pub mod Checked
 pub mod Timers
 pub mod Ground
+pub mod FreePlaces
 pub mod Readings
 pub mod SectionGround
 pub mod Past

@@ -71,6 +71,19 @@ SectionEndsOverGround =
     × (100 * stm .train .length ≤ sectionAt place stm .ground + groundOver stm xs
     → (sectionAt place (stateAtEnd stm xs) .held && eqb (sectionAt place (stateAtEnd stm xs) .id) (sectionAt place stm .id)) ≡ false)
 
+-- ---- free places
+
+-- a place that holds no curve, or no section, stays as it is until a new one comes: reports neither move it nor note it
+abbrev pub FreePlacesStay : Type 0
+FreePlacesStay =
+    (stm : Stm) (xs : List Sent) (place : ℕ)
+    → (curveAt place stm .held ≡ false
+    → noneAccepted (λ before command. freshens command || isOf Code.NewCurve command) stm xs ≡ true
+    → curveAt place (stateAtEnd stm xs) ≡ curveAt place stm)
+    × (sectionAt place stm .held ≡ false
+    → noneAccepted (λ before command. freshens command || isOf Code.NewSection command) stm xs ≡ true
+    → sectionAt place (stateAtEnd stm xs) ≡ sectionAt place stm)
+
 -- ---- reports sent again
 
 -- a list in which, after each command, the last accepted one of the list is sent again so many times
