@@ -1,5 +1,5 @@
 -- The record's P_REF and the phase's are one figure, so that a feedback goes on as its phase does.
-use mathlib.Core.Path.{_≡_, refl, sym, ap, _∙_, subst}
+use mathlib.Core.Path.{_≡_, refl, sym, ap, _∙_}
 use mathlib.Core.List.{List, [], _∷_}
 use Prim.Native.Nat.{ℕ}
 use lib.IntN.{ℤ}
@@ -7,7 +7,7 @@ use lib.Ieee.{Float}
 use Rattle.pressure.specs.Convert.{halvedOf, sensorFault, pressureOf}
 use Rattle.pressure.specs.Phases.{referenceOf, nextOf}
 use Rattle.pressure.specs.Report.{freshFeedback, pressureAt, phaseAfter, reported, reportedTo}
-use Rattle.pressure.specs.Claims.{afterAll, IsReference, Agrees, RecordAgrees, ReportAgrees, PhaseDecides}
+use Rattle.pressure.specs.Claims.{afterAll, IsReference, Agrees, RecordAgrees, ReportAgrees, PhaseDecides, LowIsReference}
 use Rattle.pressure.specs.declared.Feed.{Feed}
 use Rattle.pressure.specs.declared.Phase.{Phase}
 use Rattle.pressure.specs.declared.Phase.the-variants.{Waiting, Settling, Set}
@@ -36,6 +36,10 @@ fresh-agrees = refl
 
 pub record-agrees : RecordAgrees
 record-agrees feed full xs = run-agrees freshFeedback feed full xs fresh-agrees
+
+pub low-is-reference : LowIsReference
+unfolding reported pressureAt pressureOf
+low-is-reference before feed full x agrees low = rw low agrees
 
 -- ---- by the phase alone
 reference-told : (phase : Phase) (r : Float) → IsReference phase r → r ≡ referenceOf phase

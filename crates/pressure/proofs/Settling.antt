@@ -14,7 +14,7 @@ use lib.Ieee.{Float}
 use Rattle.pressure.specs.Reference.{changedReference}
 use Rattle.pressure.specs.Phases.{isNormal, isFar, isSet, referenceOf, waitedOf, settledOf, setOf, nextOf}
 use Rattle.pressure.specs.Report.{pressureAt, phaseAfter, reported}
-use Rattle.pressure.specs.Claims.{Each, pressureUnset, StaysNear, Settled, SetAfterThirty, NeverEarlier, SettlesAtThirty, ChangesAtTenth, ReferenceIsKept}
+use Rattle.pressure.specs.Claims.{Each, pressureUnset, StaysNear, Settled, NeverEarlier, SettlesAtThirty, ChangesAtTenth, ReferenceIsKept}
 use Rattle.pressure.proofs.Agreeing.{pressureIn, phaseOn, phaseOnAll, run-from, run-fresh}
 use Rattle.pressure.specs.declared.Feed.{Feed}
 use Rattle.pressure.specs.declared.Phase.{Phase}

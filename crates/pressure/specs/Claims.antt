@@ -8,7 +8,7 @@ use lib.Dec.{T}
 use lib.IntN.{ℤ, pos, negsuc, _-ℤ_}
 use lib.ListN.{length}
 use lib.Ieee.{Float, binary32, round, le}
-use Rattle.pressure.specs.Convert.{kPa, halvedOf, pressureOf}
+use Rattle.pressure.specs.Convert.{kPa, halvedOf, isLow, pressureOf}
 use Rattle.pressure.specs.Exact.{SixteenBits, IsFraction, IsHalves}
 use Rattle.pressure.specs.Reference.{changedReference, dropOf}
 use Rattle.pressure.specs.Phases.{isNormal, isFar, isSet}
@@ -32,7 +32,7 @@ Each P (x ∷ xs) = P x × Each P xs
 
 -- ---- one P_REF
 
--- the phase's P_REF, 0 while there is none
+-- r is the phase's P_REF, 0 while there is none
 abbrev pub IsReference : Phase → Float → Type 0
 IsReference Waiting r = r ≡ kPa 0
 IsReference (Settling saved reports) r = r ≡ kPa 0
@@ -50,7 +50,13 @@ RecordAgrees = (feed : Feed) (full : ℕ) (xs : List ℤ) → Agrees (afterAll f
 abbrev pub ReportAgrees : Type 0
 ReportAgrees = (phase : Phase) (pressures : Pressures) (feed : Feed) (full : ℕ) (x : ℤ) → Agrees (reported phase pressures feed full x)
 
--- where it is so, the record brings nothing that the phase has not: the same phase leads to the same feedback
+-- where it is so, "Below −50: .. P_INT is P_REF (0 if unset)" holds of the phase's P_REF,
+abbrev pub LowIsReference : Type 0
+LowIsReference =
+    (before : Measured) (feed : Feed) (full : ℕ) (x : ℤ)
+    → Agrees before → isLow (halvedOf x) ≡ true → IsReference (before .phase) (reportedTo before feed full x .pressures .pressure)
+
+-- and the record brings nothing that the phase has not: the same phase leads to the same feedback
 abbrev pub PhaseDecides : Type 0
 PhaseDecides =
     (one other : Measured) (feed : Feed) (full : ℕ) (x : ℤ)
