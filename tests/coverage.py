@@ -1,133 +1,727 @@
 #!/usr/bin/env python3
-"""Says what the output of the stream program has shown.
+"""Checks that the recorded runs have what docs/TRACE.md says of them.
 
-    coverage.py OUTPUT [OUTPUT ...]
-    coverage.py --stream STREAM OUTPUT
-
-Several outputs are counted together. With --stream the commands are read beside
-their lines and the answers are counted for each code. The exit status is 1 if
-something that can be seen was not.
+Of crates/trips_run each command is read beside its line, and beside the picture that tests/trips.py keeps of a unit. Of
+crates/answers_run each record is read beside its line. The tables here are written from document 01. The exit status is 1
+if something claimed is not met, or if an answer or a report is not as the tables and the picture have it.
 """
 
+import os
+import struct
 import sys
-from collections import Counter
+from collections import Counter, namedtuple
 
-ANSWERS = [0] + list(range(3, 14)) + [100]
-LENGTHS = {0x01: 24, 0x02: 6, 0x10: 14, 0x20: 12, 0x21: 6, 0x22: 8, 0x23: 6, 0x30: 6, 0x31: 5, 0x32: 5}
+sys.dont_write_bytecode = True
+sys.path.insert(0, os.path.dirname(os.path.abspath(__file__)))
+import curve as curves
+from trips import Picture, at, upto
+
+LAST = 0xFFFFFFFF
+DE, CS, HS, DA, FA = range(5)
 STATES = ["DE", "CS", "HS", "DA", "FA"]
-ORDERS = ["none", "soft", "full", "emergency"]
+LOSS, TEXT, HALKA, NEUTRAL = 1, 2, 4, 8
+LENGTHS = {0x01: 24, 0x02: 6, 0x10: 14, 0x20: 12, 0x21: 6, 0x22: 8, 0x23: 6, 0x30: 6, 0x31: 5, 0x32: 5}
+
+# An operand of a code: where it stands among the operands, its form, values in range at its limits, values out of
+# range next to them, and for the speed of a curve the kind that it belongs to.
+Operand = namedtuple("Operand", "code name at form good bad kind", defaults=[None])
+OPERANDS = [
+    Operand(0x01, "flags", 0, "B", (0, 1, 2, 3), (4, 8, 16, 32, 64, 128)),
+    Operand(0x01, "train speed", 1, "H", (10, 300), (9, 301)),
+    Operand(0x01, "length", 3, "H", (10, 1000), (9, 1001)),
+    Operand(0x01, "full deceleration", 5, "H", (400, 2000), (399, 2001)),
+    Operand(0x01, "soft deceleration", 7, "H", (400,), (399,)),  # up to full: see in_range
+    Operand(0x01, "T_B", 9, "B", (1, 100), (0, 101)),
+    Operand(0x01, "gC", 10, "B", (0, 200), (201,)),
+    Operand(0x01, "gP", 11, "B", (0, 200), (201,)),
+    Operand(0x01, "gBf", 12, "B", (0, 200), (201,)),
+    Operand(0x01, "F margin", 13, "B", (1, 30), (0, 31)),
+    Operand(0x01, "emergency margin", 14, "B", (11, 30), (10, 31)),
+    Operand(0x01, "sufficient application", 15, "B", (30, 150), (29, 151)),
+    Operand(0x01, "P_FULL", 16, "H", (150, 600), (149, 601)),
+    Operand(0x01, "T_EBCHK", 18, "B", (1, 100), (0, 101)),
+    Operand(0x02, "state", 0, "B", (0, 1, 2, 3, 4), (5,)),
+    Operand(0x10, "speed", 0, "H", (0, 10000), (10001,)),
+    Operand(0x10, "moved", 2, "H", (0, 1200), (1201,)),
+    Operand(0x10, "measured deceleration", 4, "h", (-32768, 32767), ()),
+    Operand(0x10, "P_EXT", 6, "h", (-32768, 32767), ()),
+    Operand(0x10, "buttons", 8, "B", (0, 1, 2, 4, 8, 15), (16, 32, 64, 128)),
+    Operand(0x20, "id", 0, "B", (0, 254), (255,)),
+    Operand(0x20, "kind", 1, "B", (0, 1), (2,)),
+    Operand(0x20, "distance", 2, "H", (0, 10000), (10001,)),
+    Operand(0x20, "target", 4, "H", (10, 300), (9, 301), 0),
+    Operand(0x20, "release speed", 4, "H", (10, 40), (9, 11, 39, 41), 1),
+    Operand(0x20, "gradient", 6, "b", (-30, 30), (-31, 31, -128, 127)),
+    Operand(0x21, "id", 0, "B", (0, 254), (255,)),
+    Operand(0x22, "id", 0, "B", (0, 254), (255,)),
+    Operand(0x22, "speed", 1, "H", (10, 300), (9, 301)),
+    Operand(0x23, "id", 0, "B", (0, 254), (255,)),
+    Operand(0x30, "stop", 0, "B", (0, 1, 2), (3,)),
+]
+
+# What each code is answered in DE, CS, HS, DA and FA, all else being in order.
+CODES = {0x01: (0, 0, 0, 0, 0), 0x10: (0, 0, 0, 0, 8), 0x20: (10, 10, 0, 0, 8), 0x21: (10, 10, 0, 0, 8),
+         0x22: (10, 10, 0, 0, 8), 0x23: (10, 10, 0, 0, 8), 0x30: (10, 10, 10, 0, 8), 0x31: (10, 10, 0, 0, 8),
+         0x32: (10, 10, 10, 0, 8)}
+# What command 02 is answered, from each state to DE, CS, HS, DA and FA, where there is a reference pressure.
+PATHS = ((10, 0, 10, 0, 0), (10, 10, 0, 10, 0), (10, 0, 10, 0, 0), (10, 0, 10, 10, 0), (8, 8, 8, 8, 8))
+
+# Two refusals that one command can meet. 9 and 11 cannot (an order of DA is in range), nor 10 and 13 (where 20 and 22
+# are not allowed nothing is held), and 11, 12 and 13 are of different codes.
+PAIRS = [(5, 6), (5, 9)] + [(6, n) for n in range(7, 14)] + [(7, n) for n in range(8, 14)] + [
+    (8, n) for n in range(9, 14)] + [(9, 10), (9, 12), (9, 13), (10, 11), (10, 12)]
+
+# The causes' strengths: soft, full, emergency.
+STRENGTHS = "SEFSEEEFFSSE"
+# Bit 1 comes with bit 0 (its margin is over 10) and both are releasable below VMAX+5; bit 4 comes with bit 2 or 3, and
+# all are releasable where no curve brakes. So LOSS drops each with its companion, and neither stands alone.
+NEVER_ALONE = (1, 4)
+
 INTERVALS = ["none", "A", "Ab", "Bf", "B", "C", "D", "E", "F"]
-MESSAGES = ["DRIFTBROMSFEL", "NODBROMSFEL", "TRYCKGIVARFEL"]
-OFFERS = ["none", "LOSS", "text", "both"]
-CAUSES = range(12)
-# Bit 1 comes with bit 0 and bit 4 with bit 2 or 3, and each pair goes together.
-NEVER_ALONE = {1, 4}
 SHOWN = [(0, 0, 0), (1, 0, 0), (2, 2, 2), (3, 1, 1), (4, 2, 2), (4, 2, 3),
          (5, 2, 3), (6, 2, 3), (6, 2, 4), (7, 2, 4), (8, 2, 4)]
 
-missing = []
+
+def claims():
+    """Every claim, by the headings of docs/TRACE.md."""
+    yield "Commands", [f"{code:02X} accepted" for code in LENGTHS]
+    yield "Operands", [f"{o.code:02X} {o.name} {value}" for o in OPERANDS for value in o.good + o.bad] + [
+        "01 soft deceleration = full", "01 soft deceleration = full + 1"]
+    yield "States", [f"{code:02X} in {name}: {answer}" for code, row in CODES.items() for name, answer in zip(STATES, row)]
+    yield "Paths", [f"{STATES[a]} to {STATES[b]}: {PATHS[a][b]}" for a in range(5) for b in range(5)] + [
+        "DE to DA: 11", "HS to DA: 11", "CS to DA: 10 without a reference"]
+    yield "Answers", [f"answer {n}" for n in (0, *range(4, 14), 100)] + [f"{code:02X} again" for code in LENGTHS] + [
+        "again in FA", "again after a refusal", "again where 10 would refuse", "again where 12 would refuse",
+        "again, with ground under a curve", "same number, other bytes: 7",
+        "FFFFFFFF accepted", "after FFFFFFFF: 6", "after FFFFFFFF: 7", "after FFFFFFFF: 100", "after FFFFFFFF: a start",
+        "a refused number accepted", "12 of a curve", "12 of a section", "12 of an ending section", "13 of a curve",
+        "13 of a section", "13 with an ending section", "a held curve replaced", "a held curve with a past replaced",
+        "an ending section stands again", "a freed curve's place used", "a freed section's place used",
+        "start over curves, sections and causes", "CS with curves", "CS with sections", "CS with causes", "CS with the 40",
+        "CS with a check running", "CS with ground rolled", "CS and back to DA with the old reference"] + [
+        f"{a} before {b}" for a, b in PAIRS]
+    yield "Feedback", [f"reports in DA, {feed}" for feed in ("pipe", "cylinder")] + [
+        f"reference set in {name}" for name in ("DE", "CS", "HS")]
+    yield "Curves", [
+        "a curve shown at d 0", "a curve removed by 21", "VMAX by the train", "VMAX by a section",
+        "VMAX by an ending section", "VMAX by the 40", "ending section 1 cm before the length", "section gone at the length",
+        "a proceed signal ends the 40", "permitted speed is VMAX", "permitted speed below VMAX"]
+    yield "Causes and release", [f"report in {name}" for name in ("DE", "CS", "HS", "DA")] + [
+        "ground in HS under a curve", "DA entered at VMAX+10", "LOSS held from before DA releases nothing",
+        "past in B noted", "in B in HS, then A or Bf in DA", "past in B kept by a replaced curve",
+        "30 0 adds 5", "30 1 adds 6 and 7",
+        "30 2 adds 8", "32 adds 9", "since of 5 starts again", "since of 6 starts again", "since of 8 starts again"] + [
+        f"bit {bit} alone" for bit in range(12) if bit not in NEVER_ALONE] + [
+        f"bit {bit} alone, flag bit 0 {flag}: order {order}" for bit in range(12) if STRENGTHS[bit] in "SF"
+        for flag, order in ((0, 2), (1, 1 if STRENGTHS[bit] == "S" else 2))] + [
+        f"bit {bit} makes order 3" for bit in range(12) if STRENGTHS[bit] == "E"] + [
+        "soft and full, flag bit 0 1: order 2"] + [
+        f"bit {bit} ordered" for bit in (0, 1, 2, 3, 4, 10, 11)] + [f"bit {bit} dropped" for bit in range(12)] + [
+        f"bit {bit} not released by a fresh press" for bit in range(12) if bit != 10] + [
+        "LOSS leaves bit 10", "bits 2 and 3 together",
+        "bit 0 at VMAX+10", "no bit 0 a cm/s below", "bit 1 at VMAX+margin", "no bit 1 a cm/s below",
+        "bits 0, 1, 7 at VMAX+5 not offered", "bits 0, 1, 7 a cm/s below offered", "bit 9 offered at 80 km/h",
+        "bit 9 not offered a cm/s above", "D, braking, drop sufficient: no order", "D, braking, half a kPa less: order",
+        "speed 0 with ground is no halt", "moved 0 with speed is no halt", "freed at the report of its halt",
+        "a held LOSS releases nothing", "a held text releases nothing",
+        "500 cm rolled", "501 cm rolled: bit 10", "over 500 cm rolled in DA before a halt",
+        "over 500 cm from 0 after a drop of bit 10", "over 500 cm after gear",
+        "DRIFTBROMSFEL without bit 11", "DRIFTBROMSFEL gone with the last cause", "DRIFTBROMSFEL in FA",
+        "bit 11 at the T_B-th report", "FA at the T_EBCHK-th report", "FA by the emergency check alone",
+        "FA by both checks at one report",
+        "FA at a fresh LOSS that would release all", "bit 11 begins the emergency check",
+        "service check satisfied at its limit", "emergency check satisfied at its limit", "a drop of 60 satisfies",
+        "a drop of 59.5 doesn't", "a drop at the beginning doesn't count", "a check begun by a command",
+        "a check begun by a report", "over T_B reports after bit 11"]
+    yield "Report", [f"state {name}" for name in STATES] + [f"order {n}" for n in range(4)] + [
+        f"interval, bar, mode: {INTERVALS[i]}, {b}, {m}" for i, b, m in SHOWN] + [
+        "DRIFTBROMSFEL", "NÖDBROMSFEL", "TRYCKGIVARFEL"] + [f"TRYCKGIVARFEL in {name}" for name in STATES] + [
+        f"offer {n}" for n in range(4)] + [
+        "shown by interval", "shown by interval, not the lowest permitted", "shown by permitted speed, not the lowest id",
+        "shown by id", "another command changes the interval shown", "another command changes VMAX",
+        "another command changes the offer", "a curve given in F, no cause"]
+    yield "Figures", [
+        "VMAX 100: 3,055 no order", "VMAX 100: 3,056 bit 0", "VMAX 100: 2,916 offered", "VMAX 100: 2,917 not offered",
+        "P_FULL 380: 956 kPa gives 500 and the message", "full 700: 490 measured frees bit 6", "full 700: 489 doesn't"]
+    yield "Areas", [f"area written at {n}" for n in (0, 100)] + [f"area left alone at {n}" for n in range(1, 14)] + [
+        f"area of {n} bytes: 1" for n in (0, 12, 13, 15, 32)] + [f"1 before {n}" for n in (2, 3, 4)] + [
+        f"area left alone at {words}" for words in ("12 of a curve", "12 of a section", "12 of an ending section",
+                                                    "13 of a curve", "13 of a section")] + [
+        "a refused number accepted, with an area"]
 
 
-def table(title, rows, counts):
-    """Prints the counts of the rows (key, name) and notes the keys not seen."""
-    print(title)
-    for key, name in rows:
-        count = counts[key]
-        print(f"  {name:<28}{count:>9}{'' if count else '   not seen'}")
-        if not count:
-            missing.append(f"{title}: {name}")
-    known = {key for key, _ in rows}
-    for key in sorted(set(counts) - known):
-        print(f"  {str(key):<28}{counts[key]:>9}   unlooked-for")
-        missing.append(f"{title}: {key} is unlooked-for")
+class Coverage:
+    def __init__(self):
+        self.claims = list(claims())
+        self.seen = Counter({claim: 0 for _, group in self.claims for claim in group})
+        self.wrong = []
 
+    def see(self, claim, met=True):
+        if claim not in self.seen:
+            raise KeyError(claim)
+        self.seen[claim] += bool(met)
 
-def codes_of(stream):
-    """The code of each command of a stream, in order."""
-    at = 0
-    while at < len(stream):
-        code = stream[at]
-        yield code
-        at += LENGTHS.get(code, len(stream))
+    def expect(self, met, words):
+        if not met:
+            self.wrong.append(f"command {self.line}: {words}")
 
+    # -- a stream
 
-def main(arguments):
-    stream = None
-    if arguments[:1] == ["--stream"]:
-        with open(arguments[1], "rb") as file:
-            stream = file.read()
-        arguments = arguments[2:]
-    lines = []
-    for name in arguments:
-        with open(name) as file:
-            lines.extend(file.read().splitlines())
+    def read(self, stream, lines):
+        self.unit = Picture()
+        self.report = None
+        self.refused_numbers = set()
+        self.refused_since = False
+        at_byte = 0
+        for self.line, text in enumerate(lines, 1):
+            length = LENGTHS.get(stream[at_byte], 0)
+            raw = stream[at_byte:at_byte + length]
+            at_byte += length
+            answer, _, digits = text.partition(" ")
+            answer = int(answer)
+            self.see(f"answer {answer}")
+            if answer == 4:
+                self.expect(len(raw) < length and self.line == len(lines), "4 is of a rest too short, the last")
+                break
+            self.command(raw, answer, bytes.fromhex(digits))
+        self.expect(at_byte >= len(stream), "the whole stream is answered")
 
-    answers, states, orders, intervals, bars, modes = (Counter() for _ in range(6))
-    offers, messages, shown, alone, together, ids = (Counter() for _ in range(6))
-    message_sets, cause_sets, limits = Counter(), Counter(), Counter()
-    for line in lines:
-        head, _, digits = line.partition(" ")
-        answers[int(head)] += 1
-        if not digits:
-            continue
-        report = bytes.fromhex(digits)
-        state, order = report[0], report[1]
-        causes = report[2] << 8 | report[3]
+    def command(self, raw, answer, report):
+        code, number, operands = raw[0], struct.unpack(">I", raw[1:5])[0], raw[5:]
+        state = None if self.report is None else self.report[0]
+        again = self.unit.started and raw == self.unit.last
+        self.refusals(code, number, operands, state, again, answer)
+        self.operands(code, operands, state, answer)
+        if answer == 0:
+            self.see(f"{code:02X} accepted")
+            before = self.picture()
+            self.accepted(code, number, operands, raw, report, before)
+            self.refused_since = False
+            self.report = report
+        elif answer == 100:
+            self.repeated(code, number, operands, report)
+        else:
+            self.expect(not report, "a refusal has no report")
+            self.refused_numbers.add(number)
+            self.refused_since = True
+
+    # -- answers
+
+    def refusals(self, code, number, operands, state, again, answer):
+        """The refusals that the command meets, the first of which must be the answer."""
+        unit = self.unit
+        meets = []
+        if not unit.started:
+            meets += [5] * (code != 0x01)
+        meets += [6] * (number == 0)
+        if unit.started and code != 0x01 and not again:
+            meets += [7] * (number != unit.number + 1 or unit.number == LAST)
+            meets += [8] * (state == FA)
+        early = bool(meets)
+        meets += [9] * (not in_range(code, operands))
+        if unit.started:
+            meets += self.late_refusals(code, operands, state)
+        expected = meets[0] if meets and (early or not again) else 100 if again else 0
+        self.expect(answer == expected, f"the answer is {answer}, not {expected}")
+        if answer == 100:
+            for n in meets:
+                if n in (10, 12):
+                    self.see(f"again where {n} would refuse")
+        for n in meets[1:]:
+            if (meets[0], n) in PAIRS and answer == meets[0]:
+                self.see(f"{answer} before {n}")
+        if unit.started and unit.number == LAST and code != 0x01 and answer in (6, 7, 100):
+            self.see(f"after FFFFFFFF: {answer}")
+        if unit.started and unit.number == LAST and code == 0x01 and answer == 0:
+            self.see("after FFFFFFFF: a start")
+        if answer == 7 and number == unit.number and code == unit.last[0]:
+            self.see("same number, other bytes: 7")
+        if answer == 12:
+            kind = {0x21: "a curve"}.get(code, "an ending section" if operands[0] in unit.sections else "a section")
+            self.see(f"12 of {kind}")
+        if answer == 13:
+            self.see("13 of a curve" if code == 0x20 else "13 of a section")
+            self.see("13 with an ending section", code == 0x22 and any(g is not None for _, g in unit.sections.values()))
+
+    def late_refusals(self, code, operands, state):
+        unit = self.unit
+        if code == 0x02:
+            to = operands[0]
+            if to > FA:
+                return []
+            return [10] * (state == FA or PATHS[state][to] == 10) + [11] * (to == DA and unit.reference is None)
+        meets = [10] * (state == FA and code not in (0x01, 0x10) or CODES[code][state] == 10)
+        if code == 0x21:
+            meets += [12] * (operands[0] not in unit.curves)
+        if code == 0x23:
+            meets += [12] * (operands[0] not in unit.sections or unit.sections[operands[0]][1] is not None)
+        if code in (0x20, 0x22):
+            held = unit.curves if code == 0x20 else unit.sections
+            meets += [13] * (operands[0] not in held and len(held) == 16)
+        return meets
+
+    def operands(self, code, operands, state, answer):
+        if answer in (0, *range(9, 14)):
+            self.expect((answer == 9) != in_range(code, operands), "9 is for an operand out of range")
+            for o in OPERANDS:
+                if applies(o, code, operands):
+                    value = operand(o, operands)
+                    if value in o.good:
+                        self.see(f"{code:02X} {o.name} {value}", answer == (10 if (o.name, value) == ("state", DE) else 0))
+                    elif value in o.bad:
+                        alone = in_range(code, placed(o, operands, o.good[-1]))
+                        self.see(f"{code:02X} {o.name} {value}", answer == 9 and alone)
+            if code == 0x01:
+                full, soft = struct.unpack(">HH", operands[5:9])
+                self.see("01 soft deceleration = full", soft == full and answer == 0)
+                self.see("01 soft deceleration = full + 1",
+                         soft == full + 1 and answer == 9 and in_range(code, operands[:7] + operands[5:7] + operands[9:]))
+        if state is None or answer not in (0, 8, 10, 11):
+            return
+        if code == 0x02 and operands[0] <= FA:
+            way = f"{STATES[state]} to {STATES[operands[0]]}"
+            if answer == 11 or answer == PATHS[state][operands[0]]:
+                self.see(f"{way}: {answer}")
+            self.see("CS to DA: 10 without a reference",
+                     way == "CS to DA" and answer == 10 and self.unit.reference is None)
+        elif code != 0x02 and answer == CODES[code][state]:
+            self.see(f"{code:02X} in {STATES[state]}: {answer}")
+
+    def repeated(self, code, number, operands, report):
+        self.see(f"{code:02X} again")
+        self.expect(report == self.report, "the report of a repeat is the last one")
+        self.see("again in FA", report[0] == FA)
+        self.see("again after a refusal", self.refused_since)
+        self.see("again, with ground under a curve",
+                 code == 0x10 and report[0] == DA and struct.unpack(">H", operands[2:4])[0] > 0
+                 and any(c["d"] > 0 for c in self.unit.curves.values()))
+
+    # -- what an accepted command does
+
+    def picture(self):
+        unit = self.unit
+        if not unit.started:
+            return None
+        old = Picture()
+        old.__dict__.update(unit.__dict__)
+        old.curves = {ident: dict(c) for ident, c in unit.curves.items()}
+        old.sections, old.since = dict(unit.sections), set(unit.since)
+        return old
+
+    def accepted(self, code, number, operands, raw, report, before):
+        unit = self.unit
+        self.expect(unit.take(raw) == 0, "the picture accepts it")
+        self.see("a refused number accepted", code != 0x01 and number in self.refused_numbers)
+        self.refused_numbers.clear()
+        self.see("FFFFFFFF accepted", number == LAST and code != 0x01)
+        if code == 0x01:
+            self.afresh()
+            self.see("start over curves, sections and causes",
+                     before and before.curves and before.sections and before.causes and before.state == DA)
+        elif code == 0x02:
+            self.entered(before, report)
+        elif code == 0x10:
+            self.reported(before, operands, report)
+        else:
+            self.told(code, operands, before, report)
+        if unit.state in (DA, FA):
+            self.braking(code, before, report)
+        self.written(report)
+
+    def afresh(self):
+        """What is remembered beside the picture, after a start or CS."""
+        self.freed_curve = self.freed_section = False
+        self.left = []
+        self.b_in_hs = set()
+        self.halted = self.geared = self.dropped_10 = False
+        self.neutral_ground = 0
+        self.begun_with_drop = self.faulted = self.loss_before_da = False
+        self.since_order = self.since_emergency = self.since_fault = 0
+
+    def entered(self, before, report):
+        unit = self.unit
+        if unit.state == CS:
+            self.afresh()
+            self.left = [claim for claim, met in (
+                ("CS with curves", before.curves), ("CS with sections", before.sections), ("CS with causes", before.causes),
+                ("CS with the 40", before.forty), ("CS with ground rolled", before.rolled),
+                ("CS with a check running", before.service is not None or before.emergency is not None),
+                ("CS and back to DA with the old reference", before.state == DA)) if met]
+        if unit.state == DA:
+            for claim in self.left:
+                self.see(claim)
+            self.see("DA entered at VMAX+10", unit.v >= at(unit.vmax + 10) and report[2:4] == b"\0\0")
+            self.loss_before_da = bool(unit.buttons & LOSS)
+
+    def told(self, code, operands, before, report):
+        """Commands 20 to 32."""
+        unit, ident = self.unit, operands[0] if operands else None
+        if code == 0x20:
+            held = before.curves.get(ident)
+            self.see("a held curve replaced", held)
+            self.see("a held curve with a past replaced", held and held["past"])
+            self.see("a freed curve's place used", not held and self.freed_curve and len(unit.curves) == 16)
+            self.see("past in B kept by a replaced curve",
+                     held and held["past"] and unit.state == DA and report[8] == ident and report[9] == 2)
+            self.see("a curve given in F, no cause", unit.state == DA and report[8:10] == bytes([ident, 8])
+                     and not report[3] & 0b11100)
+        elif code == 0x21:
+            self.see("a curve removed by 21")
+            self.b_in_hs.discard(ident)
+            self.freed_curve = self.freed_curve or len(before.curves) == 16
+        elif code == 0x22:
+            held = before.sections.get(ident)
+            self.see("an ending section stands again", held and held[1] is not None)
+            self.see("a freed section's place used", not held and self.freed_section and len(unit.sections) == 16)
+        elif code == 0x30:
+            kind = ident
+            added = (1 << 5, 1 << 6 | 1 << 7, 1 << 8)[kind]
+            self.expect(unit.causes == before.causes | added, "30 adds its causes")
+            self.see(("30 0 adds 5", "30 1 adds 6 and 7", "30 2 adds 8")[kind])
+            bit = (5, 6, 8)[kind]
+            self.see(f"since of {bit} starts again", before.causes >> bit & 1 and bit in before.since)
+        elif code == 0x31:
+            self.see("a proceed signal ends the 40", before.forty and unit.vmax > before.vmax)
+        elif code == 0x32:
+            self.see("32 adds 9", not before.causes >> 9 & 1 and unit.causes >> 9 & 1)
+        if unit.state == DA and before.state == DA and self.report[0] == DA:
+            old = self.report
+            self.see("another command changes the interval shown", old[8] == report[8] != 255 and old[9] != report[9])
+            self.see("another command changes VMAX", old[6:8] != report[6:8])
+            self.see("another command changes the offer", old[13] != report[13] and old[2:4] == report[2:4])
+            if code not in (0x30, 0x32):
+                self.expect(old[2:4] == report[2:4], "no cause comes or goes")
+
+    def reported(self, before, operands, report):
+        unit = self.unit
+        v, moved, measured, half, buttons = struct.unpack(">HHhhB", operands)
+        self.see(f"report in {STATES[before.state]}")
+        if unit.reference is not None and before.reference is None and before.state in (DE, CS, HS):
+            self.see(f"reference set in {STATES[before.state]}")
+        if unit.train["flags"] & 2 and unit.train["p_full"] == 380:
+            self.see("P_FULL 380: 956 kPa gives 500 and the message", half == 1912 and unit.p_int == 500 and report[12] & 4)
+        if before.state in (HS, DA):
+            self.grounds(before, moved, report)
+        if before.state == HS:
+            for ident, c in unit.curves.items():
+                self.see("ground in HS under a curve", before.curves[ident]["d"] > c["d"])
+                if unit.interval(c, v) not in ("A", "Bf") and not c["past"]:
+                    self.b_in_hs.add(ident)
+        if before.state != DA:
+            return
+        self.see("reports in DA, " + ("cylinder" if unit.train["flags"] & 2 else "pipe"))
+        for ident, c in unit.curves.items():
+            self.see("past in B noted", c["past"] and not before.curves[ident]["past"])
+        if unit.state == DA:
+            self.limits_in_da(before, v, report)
+            self.pressed(before, v, moved, buttons, report)
+            self.rolled(before, v, moved, buttons, report)
+        self.checks(before, buttons)
+        self.figures(before, v, measured, report)
+
+    def figures(self, before, v, measured, report):
+        """01's figures on orders and releases."""
+        unit = self.unit
+        if unit.vmax == 100 and unit.state == DA:
+            self.see("VMAX 100: 3,055 no order", v == 3055 and not unit.causes)
+            self.see("VMAX 100: 3,056 bit 0", v == 3056 and unit.causes == 1)
+            self.see("VMAX 100: 2,916 offered", v == 2916 and unit.causes == 1 and report[13] == 1)
+            self.see("VMAX 100: 2,917 not offered", v == 2917 and unit.causes == 1 and report[13] == 0)
+        if before.causes >> 6 & 1 and 6 not in before.since and unit.train["full"] == 700:
+            self.see("full 700: 490 measured frees bit 6", measured == 490 and 6 in unit.since)
+            self.see("full 700: 489 doesn't", measured == 489 and 6 not in unit.since)
+
+    def grounds(self, before, moved, report):
+        unit = self.unit
+        length = 100 * unit.train["length"]
+        for ident, (speed, ground) in before.sections.items():
+            if ground is not None:
+                on = ground + moved
+                self.expect((ident in unit.sections) == (on < length), "a section ends at the train's length")
+                self.see("ending section 1 cm before the length", on == length - 1)
+                self.see("section gone at the length", on == length)
+                if on >= length and len(before.sections) == 16:
+                    self.freed_section = True
+
+    def limits_in_da(self, before, v, report):
+        unit = self.unit
+        causes, offer = unit.causes, report[13]
+        margin = unit.train["e_margin"]
+        self.see("bit 0 at VMAX+10", v == at(unit.vmax + 10) and causes & 1)
+        self.see("no bit 0 a cm/s below", v == at(unit.vmax + 10) - 1 and not causes & 1)
+        self.see("bit 1 at VMAX+margin", v == at(unit.vmax + margin) and causes & 2)
+        self.see("no bit 1 a cm/s below", v == at(unit.vmax + margin) - 1 and not causes & 2)
+        if causes and not causes & ~0b10000011:
+            self.see("bits 0, 1, 7 at VMAX+5 not offered", v == at(unit.vmax + 5) and offer == 0)
+            self.see("bits 0, 1, 7 a cm/s below offered", v == at(unit.vmax + 5) - 1 and offer == 1)
+        if causes == 1 << 9:
+            self.see("bit 9 offered at 80 km/h", v == upto(80) and offer == 1)
+            self.see("bit 9 not offered a cm/s above", v == upto(80) + 1 and offer == 0)
+        braking = [unit.interval(c, v) for c in unit.curves.values() if unit.brakes(c, v)]
+        if braking and set(braking) == {"D"}:
+            enough = unit.train["sufficient"]
+            self.see("D, braking, drop sufficient: no order", unit.drop == enough and not causes & 0b1100)
+            self.see("D, braking, half a kPa less: order", unit.drop == enough - 0.5 and causes & 0b1100
+                     and not before.causes & 0b1100)
+
+    def pressed(self, before, v, moved, buttons, report):
+        unit = self.unit
+        fresh, held = buttons & ~before.buttons, buttons & before.buttons
+        for bit in range(12):
+            button = TEXT if bit == 10 else LOSS
+            had, has = before.causes >> bit & 1, unit.causes >> bit & 1
+            if has and not had:
+                self.see(f"bit {bit} ordered")
+            self.expect(not had or has or fresh & button, "a cause goes by a fresh press")
+            if had and not has:
+                self.see(f"bit {bit} dropped")
+                self.see("freed at the report of its halt", bit in (5, 8) and bit not in before.since)
+            if had and has and fresh & button:
+                if bit == 10:
+                    self.expect(False, "text drops bit 10")
+                else:
+                    self.see(f"bit {bit} not released by a fresh press")
+        self.see("LOSS leaves bit 10", fresh == LOSS and before.causes >> 10 & 1)
+        self.see("bits 2 and 3 together", unit.causes & 0b1100 == 0b1100)
+        self.see("a held LOSS releases nothing", held & LOSS and report[13] & 1 and not unit.causes & ~before.causes)
+        self.see("a held text releases nothing", held & TEXT and report[13] & 2)
+        if self.loss_before_da:
+            self.see("LOSS held from before DA releases nothing", held & LOSS and report[13] & 1)
+            self.loss_before_da = bool(buttons & LOSS)
+        alone = unit.causes in (1 << 5, 1 << 8)
+        self.see("speed 0 with ground is no halt", alone and v == 0 and moved > 0 and report[13] == 0)
+        self.see("moved 0 with speed is no halt", alone and v > 0 and moved == 0 and report[13] == 0)
+
+    def rolled(self, before, v, moved, buttons, report):
+        """Ground in neutral, counted here too: since a halt, a drop of bit 10, or where it doesn't count."""
+        unit = self.unit
+        self.see("500 cm rolled", unit.rolled == 500 and not unit.causes >> 10 & 1)
+        self.see("501 cm rolled: bit 10", unit.rolled == 501 and unit.causes >> 10 & 1 and not before.causes >> 10 & 1)
+        if v == 0 and moved == 0:
+            self.neutral_ground, self.geared, self.halted = 0, False, True
+        elif not buttons & NEUTRAL:
+            self.neutral_ground, self.geared = 0, self.halted
+        else:
+            self.neutral_ground = self.neutral_ground + moved
+        over = self.neutral_ground > 500
+        self.see("over 500 cm rolled in DA before a halt", over and not self.halted and not unit.causes >> 10 & 1)
+        self.see("over 500 cm after gear", over and self.geared and not unit.causes >> 10 & 1)
+        if before.causes >> 10 & 1 and not unit.causes >> 10 & 1:
+            self.dropped_10 = True
+        elif v == 0 and moved == 0 or not buttons & NEUTRAL:
+            self.dropped_10 = False
+        self.see("over 500 cm from 0 after a drop of bit 10",
+                 self.dropped_10 and unit.causes >> 10 & 1 and not before.causes >> 10 & 1 and unit.rolled > 500)
+
+    def checks(self, before, buttons):
+        """Both checks at a report in DA, the reports counted here since the order began."""
+        unit = self.unit
+        t_b, t_ebchk = unit.train["t_b"], unit.train["t_ebchk"]
+        self.since_order += 1
+        self.since_emergency += 1
+        fault = unit.causes >> 11 & 1 and not before.causes >> 11 & 1
+        if fault:
+            self.expect(self.since_order == t_b, "bit 11 comes at the T_B-th report")
+            self.see("bit 11 at the T_B-th report")
+            self.see("a drop at the beginning doesn't count", self.begun_with_drop)
+            self.see("bit 11 begins the emergency check", before.emergency is None and unit.emergency == 0)
+            self.since_fault = 0
+        elif unit.causes >> 11 & 1:
+            self.since_fault += 1
+            self.see("over T_B reports after bit 11", self.since_fault > t_b)
+        if unit.state == FA:
+            self.expect(self.since_emergency == t_ebchk, "NÖDBROMSFEL comes at the T_EBCHK-th report")
+            self.see("FA at the T_EBCHK-th report")
+            self.see("FA by both checks at one report" if fault else "FA by the emergency check alone")
+            fresh = buttons & ~before.buttons
+            left = unit.causes & ~unit.releasable(unit.v, any(unit.brakes(c, unit.v) for c in unit.curves.values()))
+            self.see("FA at a fresh LOSS that would release all", fresh & LOSS and not left)
+        if before.service is not None:
+            at_limit = before.service + 1 == t_b
+            self.see("service check satisfied at its limit", at_limit and unit.drop >= 60 and not unit.causes >> 11 & 1)
+            self.see("a drop of 60 satisfies", unit.drop == 60 and unit.service is None)
+            self.see("a drop of 59.5 doesn't", unit.drop == 59.5 and unit.service is not None)
+        if before.emergency is not None:
+            at_limit = before.emergency + 1 == t_ebchk
+            self.see("emergency check satisfied at its limit", at_limit and unit.drop >= 60 and unit.state == DA)
+
+    def braking(self, code, before, report):
+        """The orders that begin and end with a command, and DRIFTBROMSFEL."""
+        unit = self.unit
+        emergency = sum(1 << bit for bit in range(12) if STRENGTHS[bit] == "E")
+        if unit.causes and not before.causes:
+            self.since_order = 0
+            self.begun_with_drop = code == 0x10 and unit.drop >= 60
+            self.see("a check begun by a report" if code == 0x10 else "a check begun by a command")
+        if unit.causes & emergency and not before.causes & emergency:
+            self.since_emergency = 0
+        drift = report[12] & 1
+        self.see("DRIFTBROMSFEL without bit 11", drift and not unit.causes >> 11 & 1 and unit.state == DA)
+        self.see("DRIFTBROMSFEL gone with the last cause", self.faulted and not drift and unit.state == DA)
+        self.see("DRIFTBROMSFEL in FA", drift and unit.state == FA)
+        self.faulted = drift
+
+    # -- the report
+
+    def written(self, report):
+        unit = self.unit
+        state, order, causes = report[0], report[1], report[2] << 8 | report[3]
         permitted, vmax = report[4] << 8 | report[5], report[6] << 8 | report[7]
-        states[state] += 1
-        message_sets[report[12]] += 1
-        for bit in range(3):
-            messages[bit] += report[12] >> bit & 1
-        if state != 3:
-            orders[order] += 1
-            continue
-        orders[order] += 1
-        ids[report[8]] += 1
-        intervals[report[9]] += 1
-        bars[report[10]] += 1
-        modes[report[11]] += 1
-        shown[report[9], report[10], report[11]] += 1
-        offers[report[13]] += 1
-        limits["below VMAX" if permitted < vmax else "VMAX"] += 1
-        cause_sets[causes] += 1
-        for bit in CAUSES:
+        self.expect(state == unit.state, "the state is the picture's")
+        self.see(f"state {STATES[state]}")
+        self.see(f"order {order}")
+        for bit, name in enumerate(("DRIFTBROMSFEL", "NÖDBROMSFEL", "TRYCKGIVARFEL")):
+            self.see(name, report[12] >> bit & 1)
+        self.see(f"TRYCKGIVARFEL in {STATES[state]}", report[12] & 4)
+        if state != DA:
+            outside = bytes([state, 3 if state == FA else 0, 0, 0, 0, 0, 0, 0, 255, 0, 0, 0, report[12], 0])
+            self.expect(report == outside, "the report outside DA")
+            return
+        self.expect(causes == unit.causes, "the causes are the picture's")
+        self.expect(vmax == unit.vmax, "VMAX is the picture's")
+        self.orders(order, causes)
+        self.see(f"offer {report[13]}")
+        self.see("permitted speed is VMAX" if permitted == vmax else "permitted speed below VMAX")
+        limits = {"VMAX by the train": [unit.train["speed"]], "VMAX by the 40": [40] * unit.forty,
+                  "VMAX by a section": [s for s, g in unit.sections.values() if g is None],
+                  "VMAX by an ending section": [s for s, g in unit.sections.values() if g is not None]}
+        least = [name for name, speeds in limits.items() if vmax in speeds]
+        if len(least) == 1:
+            self.see(least[0])
+        self.see(f"interval, bar, mode: {INTERVALS[report[9]]}, {report[10]}, {report[11]}")
+        self.expect((report[8] == 255) == (not unit.curves), "a curve is shown where one is held")
+        if unit.curves:
+            self.see("in B in HS, then A or Bf in DA", report[8] in self.b_in_hs and report[9] in (1, 3))
+            self.see("a curve shown at d 0", unit.curves[report[8]]["d"] == 0)
+            self.shown(report[8])
+
+    def orders(self, order, causes):
+        flag = self.unit.train["flags"] & 1
+        standing = [STRENGTHS[bit] for bit in range(12) if causes >> bit & 1]
+        expected = 3 if "E" in standing else 2 if "F" in standing else (2 - flag) if standing else 0
+        self.expect(order == expected, "the order is the strongest of the causes")
+        for bit in range(12):
             if causes == 1 << bit:
-                alone[bit] += 1
-            elif causes >> bit & 1:
-                together[bit] += 1
+                self.expect(bit not in NEVER_ALONE, f"bit {bit} never stands alone")
+                self.see(f"bit {bit} alone")
+                if STRENGTHS[bit] != "E":
+                    self.see(f"bit {bit} alone, flag bit 0 {flag}: order {order}")
+            if STRENGTHS[bit] == "E" and causes >> bit & 1 and standing.count("E") == 1:
+                self.see(f"bit {bit} makes order 3")
+        self.see("soft and full, flag bit 0 1: order 2", flag and set(standing) == {"S", "F"})
 
-    print(f"{len(lines)} lines")
-    table("answers", [(a, str(a)) for a in ANSWERS], answers)
-    table("states", list(enumerate(STATES)), states)
-    table("orders", list(enumerate(ORDERS)), orders)
-    print("In DA:")
-    table("causes alone", [(c, str(c)) for c in CAUSES if c not in NEVER_ALONE], alone)
-    table("causes with others", [(c, str(c)) for c in CAUSES], together)
-    table("intervals", list(enumerate(INTERVALS)), intervals)
-    table("bars", [(b, str(b)) for b in range(3)], bars)
-    table("modes", [(m, str(m)) for m in range(5)], modes)
-    table("interval, bar, mode", [(s, f"{INTERVALS[s[0]]}, {s[1]}, {s[2]}") for s in SHOWN], shown)
-    table("offers", list(enumerate(OFFERS)), offers)
-    table("permitted speed", [(k, k) for k in ("VMAX", "below VMAX")], limits)
-    print("In every state:")
-    table("messages", list(enumerate(MESSAGES)), messages)
-    sets = " ".join(f"{key}:{count}" for key, count in sorted(message_sets.items()))
-    print(f"sets of messages seen: {sets}")
-    print(f"sets of causes seen: {len(cause_sets)}, ids shown: {len(ids)}")
+    def shown(self, ident):
+        """By what the shown curve is the first: with two or more held."""
+        unit = self.unit
+        if len(unit.curves) < 2:
+            return
+        t = unit.train
+        train = curves.Train(t["full"], t["soft"], int(bool(unit.buttons & HALKA)), t["t_b"], t["g_c"], t["g_p"], t["g_bf"],
+                             t["f_margin"])
+        held = {n: curves.Curve(c["kind"], c["d"], c["speed"], c["gradient"], 0) for n, c in unit.curves.items()}
+        ranks = {n: ("A", "Bf", "B", "C", "D", "E", "F").index(curves.interval(train, c, unit.v)) for n, c in held.items()}
+        latest = [n for n in held if ranks[n] == max(ranks.values())]
+        self.expect(ident in latest, "the shown curve is in the latest interval")
+        if len(latest) == 1:
+            self.see("shown by interval")
+            if self.seen["shown by interval, not the lowest permitted"] < 5:
+                own = {n: curves.permitted(train, c) for n, c in held.items()}
+                self.see("shown by interval, not the lowest permitted", own[ident] > min(own.values()))
+            return
+        own = {n: curves.permitted(train, held[n]) for n in latest}
+        lowest = [n for n in latest if own[n] == min(own.values())]
+        self.expect(ident == min(lowest), "the shown curve permits the least, with the lowest id")
+        if len(lowest) == 1:
+            self.see("shown by permitted speed, not the lowest id", ident != min(latest))
+        else:
+            self.see("shown by id")
 
-    if stream is not None:
-        by_code = {code: Counter() for code in LENGTHS}
-        for code, line in zip(codes_of(stream), lines):
-            by_code.setdefault(code, Counter())[int(line.partition(" ")[0])] += 1
-        print("answers by code")
-        for code, counts in by_code.items():
-            row = " ".join(f"{answer}:{count}" for answer, count in sorted(counts.items()))
-            print(f"  {code:02X}  {row}")
+    # -- areas
 
-    for item in missing:
-        print(f"MISSING {item}")
-    return 1 if missing else 0
+    def areas(self, records, lines):
+        """The records of crates/answers_run: area, length, and 32 bytes of which the command is the first."""
+        given, refused, last = set(), set(), None
+        for self.line, text in enumerate(lines, 1):
+            record = records[34 * (self.line - 1):34 * self.line]
+            area, command = record[0], record[2:2 + record[1]]
+            _, answer, _, held, _, part = text.split(" ")
+            answer = int(answer)
+            left = held == "AA" * area
+            self.expect(left == (answer not in (0, 100)), "a refusal leaves the area alone, an answer writes it")
+            self.expect(part == ("" if 1 <= answer <= 4 else command[5:].hex().upper()), "the operand part")
+            self.see(f"area {'left alone' if left else 'written'} at {answer}")
+            code = command[0] if command else None
+            if answer in (0, 100):
+                self.expect(answer == 0 or held == last, "the report of a repeat is the last one")
+                self.see("a refused number accepted, with an area", command[1:5] in refused and code != 0x01)
+                refused, last = set(), held
+            elif answer > 4:
+                refused.add(command[1:5])
+            if answer == 0:
+                given = given | {command[5]} if code == 0x22 else set() if code in (0x01, 0x02) else given
+            elif answer == 1:
+                self.see(f"area of {area} bytes: 1")
+                if code not in LENGTHS or len(command) != LENGTHS[code]:
+                    self.see(f"1 before {2 if code is None else 4 if code in LENGTHS else 3}")
+            elif answer == 12:
+                kind = "a curve" if code == 0x21 else "an ending section" if command[5] in given else "a section"
+                self.see(f"area left alone at 12 of {kind}")
+            elif answer == 13:
+                self.see(f"area left alone at 13 of a {'curve' if code == 0x20 else 'section'}")
+
+    # -- the verdict
+
+    def tell(self):
+        for title, group in self.claims:
+            unmet = [claim for claim in group if not self.seen[claim]]
+            print(f"{title}: {len(group) - len(unmet)} of {len(group)}")
+            for claim in unmet:
+                print(f"  NOT MET {claim}")
+        for words in self.wrong[:20]:
+            print(f"WRONG {words}")
+        return 1 if self.wrong or not all(self.seen.values()) else 0
+
+
+def applies(o, code, operands):
+    return o.code == code and (o.kind is None or o.kind == operands[1])
+
+
+def operand(o, operands):
+    return struct.unpack_from(">" + o.form, operands, o.at)[0]
+
+
+def placed(o, operands, value):
+    changed = bytearray(operands)
+    struct.pack_into(">" + o.form, changed, o.at, value)
+    return bytes(changed)
+
+
+def in_range(code, operands):
+    for o in OPERANDS:
+        if applies(o, code, operands):
+            value = operand(o, operands)
+            high = struct.unpack_from(">H", operands, 5)[0] if o.name == "soft deceleration" else max(o.good)
+            if value not in o.good if o.name == "release speed" else not min(o.good) <= value <= high:
+                return False
+    return True
+
+
+def recorded(program):
+    folder = os.path.join(os.path.dirname(os.path.abspath(__file__)), "..", "crates", program)
+    with open(os.path.join(folder, "stdin"), "rb") as file:
+        given = file.read()
+    with open(os.path.join(folder, "stdout"), encoding="utf-8") as file:
+        return given, file.read().splitlines()
+
+
+def main():
+    coverage = Coverage()
+    coverage.read(*recorded("trips_run"))
+    print(f"{coverage.line} lines of trips_run")
+    coverage.areas(*recorded("answers_run"))
+    print(f"{coverage.line} lines of answers_run")
+    return coverage.tell()
 
 
 if __name__ == "__main__":
-    sys.exit(main(sys.argv[1:]))
+    sys.exit(main())

@@ -298,8 +298,9 @@ def vectors():
     return b''.join(out + places(rng))
 
 
-if len(sys.argv) > 1 and sys.argv[1] == 'vectors':
-    sys.stdout.buffer.write(vectors())
-else:
-    for line in lines(sys.stdin.buffer.read()):
-        print(line)
+if __name__ == '__main__':
+    if sys.argv[1:] == ['vectors']:
+        sys.stdout.buffer.write(vectors())
+    else:
+        for line in lines(sys.stdin.buffer.read()):
+            print(line)

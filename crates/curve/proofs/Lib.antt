@@ -1,5 +1,6 @@
 pub mod Figures
 pub mod Halving
+pub mod Held
 pub mod Line
 pub mod Loops
 pub mod Stricter

@@ -26,14 +26,14 @@ noCurve = record {
   past = false;
 }
 
-abbrev pub noneJudged : Judged
-noneJudged = record { held = false; interval = A; permitted = 0; brakes = false }
+abbrev pub zeroJudged : Judged
+zeroJudged = record { held = false; interval = A; permitted = 0; brakes = false }
 
 module _ (interval : Interval) (judged : List Judged) (i : ℕ) (any : Bool) where
-  pub any-step : {x : Bool} → x ≡ brakesFrom interval (getD judged i noneJudged) → i < length judged
+  pub any-step : {x : Bool} → x ≡ brakesFrom interval (getD judged i zeroJudged) → i < length judged
       → ((any || x) || anyBrakes interval (drop (i + 1) judged)) ≡ (any || anyBrakes interval (drop i judged))
   unfolding anyBrakes
-  any-step e h = rw (e, drop-step judged i noneJudged h) (or-assoc any _ _)
+  any-step e h = rw (e, drop-step judged i zeroJudged h) (or-assoc any _ _)
 
   pub any-end : length judged ≤ i → any ≡ (any || anyBrakes interval (drop i judged))
   unfolding anyBrakes
@@ -48,10 +48,10 @@ pub least-start : (judged : List Judged) → min 300 (leastPermitted judged) ≡
 least-start judged = omega (arith, least-within judged)
 
 module _ (judged : List Judged) (i : ℕ) (least : ℕ) where
-  pub least-step : {x : ℕ} → x ≡ permittedHere (getD judged i noneJudged) → i < length judged
+  pub least-step : {x : ℕ} → x ≡ permittedHere (getD judged i zeroJudged) → i < length judged
       → min (min least x) (leastPermitted (drop (i + 1) judged)) ≡ min least (leastPermitted (drop i judged))
   unfolding leastPermitted
-  least-step e h = rw (e, drop-step judged i noneJudged h) (omega arith)
+  least-step e h = rw (e, drop-step judged i zeroJudged h) (omega arith)
 
   pub least-end : least ≤ 300 → length judged ≤ i → least ≡ min least (leastPermitted (drop i judged))
   unfolding leastPermitted

@@ -17,8 +17,10 @@ use Rattle.curve.specs.declared.Kind.the-variants.{SpeedTarget, ExpectSt
 use Rattle.curve.specs.declared.Direction.{Direction}
 use Rattle.curve.specs.declared.Direction.the-variants.{Up, Down}
 use Rattle.curve.specs.declared.Curve.{Curve}
+use Rattle.curve.specs.declared.Braking.{Braking}
 use Rattle.curve.specs.declared.Interval.{Interval}
 use Rattle.curve.specs.declared.Interval.the-variants.{A, Bf, B, C, D, E, F}
+use Rattle.laws.proofs.Lists.{not-true-false}
 use Rattle.curve.proofs.Line.{line-times, line-kept}
 
 -- ---- the figures of one curve
@@ -36,7 +38,7 @@ target-below-floor SpeedTarget speed = le-refl _
 target-below-floor ExpectStop speed = zero-le
 
 -- two tests of which both pass, and a test that an earlier one makes idle
-both : (s t : Bool) → s && t ≡ true → (s ≡ true) × (t ≡ true)
+pub both : (s t : Bool) → s && t ≡ true → (s ≡ true) × (t ≡ true)
 both s t = and-eq-true-iff s t .0
 
 idle : (s t r : Bool) → (s ≡ true → t ≡ true) → s && t && r ≡ s && r
@@ -134,6 +136,26 @@ pub f-implies-e : FImpliesE
 f-implies-e curve level margin v e =
     sym (f-without-margin-is-e curve level v)
     ∙ f-stays-reached curve curve level level margin 0 v v (same curve) (le-refl level) zero-le (le-refl v) e
+
+-- where Bf isn't reached and no lead is longer than its own, no boundary is
+pub before-bf : (curve : Curve) (braking : Braking) (v : ℕ)
+    → isReached curve (braking .level) v (braking .leads .bf) ≡ false
+    → (leb (braking .leads .b) (braking .leads .bf) && leb (braking .leads .c) (braking .leads .bf) && leb (braking .leads .d) (braking .leads .bf)) ≡ true
+    → intervalOf curve braking v ≡ A
+unfolding intervalOf
+before-bf curve braking v e longest =
+    let (b-c, d) = both _ _ longest in
+    let (b, c) = both _ _ b-c in
+    let e-off = shorter 0 zero-le in
+    let f-off = not-true-false _ (λ f. false≢true (sym e-off ∙ f-implies-e curve (braking .level) (braking .margin) v f)) in
+    let leads = braking .leads in
+    let d-off = shorter (leads .d) (leb-true _ _ d) in
+    let c-off = shorter (leads .c) (leb-true _ _ c) in
+    let b-off = shorter (leads .b) (leb-true _ _ b) in
+    rw (f-off, e-off, d-off, c-off, b-off, e)
+  where
+    shorter : (T : ℕ) → T ≤ braking .leads .bf → isReached curve (braking .level) v T ≡ false
+    shorter T h = not-true-false _ (λ t. false≢true (sym e ∙ longer-lead-is-reached curve (braking .level) v T _ h t))
 
 -- ---- intervals
 

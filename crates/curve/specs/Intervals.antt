@@ -48,6 +48,6 @@ computedNumber D = 6
 computedNumber E = 7
 computedNumber F = 8
 
-abbrev pub numberOf : Shown → ℕ
-numberOf Ab = 2
-numberOf (Computed interval) = computedNumber interval
+abbrev pub shownNumber : Shown → ℕ
+shownNumber Ab = 2
+shownNumber (Computed interval) = computedNumber interval

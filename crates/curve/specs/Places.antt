@@ -8,19 +8,36 @@ use Rattle.curve.specs.Judging.{movedBy, judgedOf, notedAt}
 use Rattle.curve.specs.declared.Curve.{Curve}
 use Rattle.curve.specs.declared.Braking.{Braking}
 use Rattle.curve.specs.declared.Interval.{Interval}
+use Rattle.curve.specs.declared.Interval.the-variants.{A}
 use Rattle.curve.specs.declared.Judged.{Judged}
 
--- "d falls by the ground moved", for every curve
+-- "all 16 curves"
+abbrev pub places : ℕ
+places = 16
+
+-- "d falls by the ground moved", for every curve held; a place that holds none stays as it is
+abbrev pub movedHere : ℕ → Curve → Curve
+movedHere moved curve = cond (curve .held) (movedBy curve moved) curve
+
 abbrev pub movedAll : ℕ → List Curve → List Curve
-movedAll moved curves = map (λ curve. movedBy curve moved) curves
+movedAll moved curves = map (movedHere moved) curves
 
--- what every curve says at v
+-- what every curve held says at v; a place that holds none says nothing
+abbrev pub noneJudged : Judged
+noneJudged = record { held = false; interval = A; permitted = 300; brakes = false }
+
+abbrev pub judgedHere : Braking → ℕ → Curve → Judged
+judgedHere braking v curve = cond (curve .held) (judgedOf braking v curve) noneJudged
+
 abbrev pub judgedAll : Braking → ℕ → List Curve → List Judged
-judgedAll braking v curves = map (judgedOf braking v) curves
+judgedAll braking v curves = map (judgedHere braking v) curves
 
--- every curve's past in B, noted in the interval that it was judged to be in
+-- the past in B of every curve held, noted in the interval that it was judged to be in
+abbrev pub notedHere : Curve → Judged → Curve
+notedHere curve j = cond (curve .held) (notedAt curve (j .interval)) curve
+
 abbrev pub notedAll : List Curve → List Judged → List Curve
-notedAll curves judged = zipWith (λ curve j. notedAt curve (j .interval)) curves judged
+notedAll curves judged = zipWith notedHere curves judged
 
 -- the permitted speed at a place; one that holds no curve permits 300
 abbrev pub permittedHere : Judged → ℕ

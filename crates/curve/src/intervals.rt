@@ -1,9 +1,12 @@
 // The computed interval and the shown one.
 ghost use mathlib.Core.Path.{_≡_};
-ghost use Rattle.curve.specs.Intervals.{lastReached, intervalOf, rankOf, shownOf, computedNumber, numberOf};
+ghost use mathlib.Core.Bool.{_&&_};
+ghost use lib.Dec.{leb};
+ghost use Rattle.curve.specs.Intervals.{lastReached, intervalOf, rankOf, shownOf, computedNumber, shownNumber};
 use crate::Braking;
 use crate::Curve;
 use crate::Interval;
+use crate::Leads;
 use crate::Shown;
 use crate::boundary::f_reached;
 use crate::boundary::reached;
@@ -33,14 +36,25 @@ fn last_reached(bf: bool, b: bool, c: bool, d: bool, e: bool, f: bool) -> Interv
     Interval::A
 }
 
-// The computed interval at v.
+// Whether no lead is longer than Bf's, as with leads that are added up.
+fn bf_is_longest(leads: Leads) -> bool
+    ensures { λ r. ⌜ r ≡ (leb (leads .b) (leads .bf) && leb (leads .c) (leads .bf) && leb (leads .d) (leads .bf)) ⌝ }
+{
+    (leads.b <= leads.bf) & (leads.c <= leads.bf) & (leads.d <= leads.bf)
+}
+
+// The computed interval at v. Where Bf isn't reached, no boundary with a shorter lead is.
 pub fn interval_of(curve: Curve, braking: Braking, v: u16) -> Interval
     ensures { λ r. ⌜ r ≡ intervalOf curve braking v ⌝ }
 {
     let level = braking.level;
     let leads = braking.leads;
+    let bf = reached(curve, level, v, leads.bf);
+    if !bf & bf_is_longest(leads) {
+        return Interval::A;
+    }
     last_reached(
-        reached(curve, level, v, leads.bf),
+        bf,
         reached(curve, level, v, leads.b),
         reached(curve, level, v, leads.c),
         reached(curve, level, v, leads.d),
@@ -90,8 +104,8 @@ fn computed_number(interval: Interval) -> u8
 }
 
 // The report's number for a shown interval.
-pub fn number_of(shown: Shown) -> u8
-    ensures { λ r. ⌜ r ≡ numberOf shown ⌝ }
+pub fn shown_number(shown: Shown) -> u8
+    ensures { λ r. ⌜ r ≡ shownNumber shown ⌝ }
 {
     match shown {
         Shown::Ab => 2,

@@ -16,8 +16,8 @@ pub use boundary::reached_at_kmh;
 pub use deceleration::deceleration_of;
 pub use deceleration::level_of;
 pub use intervals::interval_of;
-pub use intervals::number_of;
 pub use intervals::rank_of;
+pub use intervals::shown_number;
 pub use intervals::shown_of;
 pub use judging::brakes_at;
 pub use judging::judge;
@@ -31,6 +31,7 @@ pub use places::any_brakes;
 pub use places::judge_all;
 pub use places::least_permitted;
 pub use places::move_all;
+pub use places::none_judged;
 pub use places::note_all;
 
 // The kinds of a curve: 0 speed target, 1 Expect Stop.
@@ -53,11 +54,11 @@ pub struct Gradient {
 // A curve, or a place that holds none. `distance` is the remaining d, `speed` the target or the
 // release speed, `past` whether it was once in B or later.
 pub struct Curve {
+    pub distance: u32,
+    pub speed: u16,
     pub held: bool,
     pub id: u8,
     pub kind: Kind,
-    pub distance: u32,
-    pub speed: u16,
     pub gradient: Gradient,
     pub past: bool,
 }

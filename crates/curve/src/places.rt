@@ -1,7 +1,7 @@
 // The sixteen places of curves: what is done to all of them, or asked of all.
 ghost use mathlib.Core.Path.{_≡_};
 ghost use Prim.Native.Nat.{min};
-ghost use Rattle.curve.specs.Places.{movedAll, judgedAll, notedAll, permittedHere, leastPermitted, brakesFrom, anyBrakes};
+ghost use Rattle.curve.specs.Places.{movedHere, movedAll, noneJudged, judgedHere, judgedAll, notedHere, notedAll, permittedHere, leastPermitted, brakesFrom, anyBrakes};
 use crate::Braking;
 use crate::Curve;
 use crate::Interval;
@@ -15,6 +15,17 @@ use crate::permitted::TOP;
 // How many curves a unit holds.
 pub const PLACES: usize = 16;
 
+// A place after so many cm moved; one that holds no curve stays as it is.
+fn moved_here(curve: Curve, moved: u16) -> Curve
+    ensures { λ r. ⌜ r ≡ movedHere moved curve ⌝ }
+{
+    if curve.held {
+        moved_by(curve, moved)
+    } else {
+        curve
+    }
+}
+
 // Every curve after so many cm moved.
 pub fn move_all(curves: [Curve; PLACES], moved: u16) -> [Curve; PLACES]
     ensures { λ r. ⌜ r ≡ movedAll moved curves ⌝ }
@@ -22,26 +33,57 @@ pub fn move_all(curves: [Curve; PLACES], moved: u16) -> [Curve; PLACES]
     let mut next = curves;
     for i in 0..PLACES {
         let curve = curves[i];
-        next[i] = moved_by(curve, moved);
+        next[i] = moved_here(curve, moved);
     }
     next
+}
+
+// What a place says that holds no curve.
+pub fn none_judged() -> Judged
+    ensures { λ r. ⌜ r ≡ noneJudged ⌝ }
+{
+    Judged {
+        held: false,
+        interval: Interval::A,
+        permitted: TOP,
+        brakes: false,
+    }
+}
+
+// What a place says at v.
+fn judge_here(curve: Curve, braking: Braking, v: u16) -> Judged
+    ensures { λ r. ⌜ r ≡ judgedHere braking v curve ⌝ }
+{
+    if curve.held {
+        judge(curve, braking, v)
+    } else {
+        none_judged()
+    }
 }
 
 // What every curve says at v.
 pub fn judge_all(curves: [Curve; PLACES], braking: Braking, v: u16) -> [Judged; PLACES]
     ensures { λ r. ⌜ r ≡ judgedAll braking v curves ⌝ }
 {
-    let mut judged = [Judged {
-        held: false,
-        interval: Interval::A,
-        permitted: TOP,
-        brakes: false,
-    }; PLACES];
+    let none = none_judged();
+    let mut judged = [none; PLACES];
     for i in 0..PLACES {
         let curve = curves[i];
-        judged[i] = judge(curve, braking, v);
+        judged[i] = judge_here(curve, braking, v);
     }
     judged
+}
+
+// A place with its curve's past in B noted; one that holds no curve stays as it is.
+fn noted_here(curve: Curve, j: Judged) -> Curve
+    ensures { λ r. ⌜ r ≡ notedHere curve j ⌝ }
+{
+    if curve.held {
+        let interval = j.interval;
+        noted(curve, interval)
+    } else {
+        curve
+    }
 }
 
 // Every curve with its past in B noted.
@@ -52,8 +94,7 @@ pub fn note_all(curves: [Curve; PLACES], judged: [Judged; PLACES]) -> [Curve; PL
     for i in 0..PLACES {
         let curve = curves[i];
         let j = judged[i];
-        let interval = j.interval;
-        next[i] = noted(curve, interval);
+        next[i] = noted_here(curve, j);
     }
     next
 }

@@ -57,7 +57,7 @@ fn put_judged(c: Curve, j: Judged) {
     let shown = curve::shown_of(c.past, interval);
     put(b": ");
     put_interval(interval);
-    put_number(b" shown ", curve::number_of(shown) as u64);
+    put_number(b" shown ", curve::shown_number(shown) as u64);
     put_number(b" permitted ", j.permitted as u64);
     put_flag(b" brakes", j.brakes);
     put_flag(b" past", c.past);

@@ -1,6 +1,6 @@
 // The operands of the commands and their ranges. Each is read at its place after the code and the number.
 ghost use mathlib.Core.Path.{_≡_};
-ghost use Rattle.rules.specs.Operands.{bitOf, within, feedOf, trainOf, trainInRange, startInRange, readingOf, odometerInRange, kindOf, speedInRange, gradientOf, curveOf, curveInRange, newCurveInRange, sectionOf, sectionInRange, inRange};
+ghost use Rattle.rules.specs.Operands.{bitOf, within, feedOf, trainOf, trainInRange, startInRange, readingOf, odometerInRange, kindOf, speedInRange, gradientFrom, gradientOf, curveOf, curveInRange, newCurveInRange, sectionOf, sectionInRange, inRange};
 use curve::Curve;
 use curve::Direction;
 use curve::Gradient;
@@ -131,21 +131,28 @@ fn speed_in_range(kind: Kind, speed: u16) -> bool
     }
 }
 
-// A signed byte as a direction and a size.
-fn gradient_of(byte: u8) -> Gradient
-    ensures { λ r. ⌜ r ≡ gradientOf byte ⌝ }
+// A signed number as a direction and a size.
+fn gradient_from(slope: i8) -> Gradient
+    ensures { λ r. ⌜ r ≡ gradientFrom slope ⌝ }
 {
-    if byte < 128 {
+    let wide = slope as i16;
+    if wide < 0 {
         Gradient {
-            direction: Direction::Up,
-            size: byte,
+            direction: Direction::Down,
+            size: (0 - wide) as u8,
         }
     } else {
         Gradient {
-            direction: Direction::Down,
-            size: 255 - byte + 1,
+            direction: Direction::Up,
+            size: wide as u8,
         }
     }
+}
+
+fn gradient_of(byte: u8) -> Gradient
+    ensures { λ r. ⌜ r ≡ gradientOf byte ⌝ }
+{
+    gradient_from(wire::signed8(byte))
 }
 
 // The curve, its distance in cm.

@@ -1,10 +1,11 @@
 -- The line of an answer (01, after "Figures to check"): "prints, a line each, the answer and, if accepted or again, a space and the
 -- report in 28 capital hex digits".
-use Prim.Native.Nat.{ℕ, _+_, _/_, _%_}
+use Prim.Native.Nat.{ℕ, _+_, _*_, _/_, _%_}
 use mathlib.Core.Bool.{cond}
 use mathlib.Core.List.{List, [], _∷_, _++_}
 use lib.Dec.{ltb}
 use lib.ListN.{take}
+use Rattle.wire.specs.Form.{reportLength}
 use Rattle.rules.specs.Numbers.{answerNumber, isAnswered}
 use Rattle.rules.specs.declared.Answer.{Answer}
 use Rattle.line.specs.declared.Line.{Line}
@@ -28,6 +29,10 @@ hexOf (byte ∷ bytes) = digitOf (byte / 16) ∷ digitOf (byte % 16) ∷ hexOf b
 -- space and line feed
 abbrev pub space : ℕ
 space = 32
+
+-- the bytes that a report takes in a line
+abbrev pub reportWidth : ℕ
+reportWidth = 1 + 2 * reportLength
 
 abbrev pub lineFeed : ℕ
 lineFeed = 10

@@ -5,12 +5,15 @@ ghost use mathlib.Core.List.{_∷_, [], _++_};
 ghost use Prim.Native.Nat.{_+_, _<_, _≤_};
 ghost use lib.ListN.{length, take};
 ghost use Rattle.rules.specs.Numbers.{isAnswered};
-ghost use Rattle.line.specs.Lines.{digitOf, decimalOf, hexOf, space, lineOf, textOf};
+ghost use Rattle.line.specs.Lines.{digitOf, decimalOf, hexOf, space, reportWidth, lineOf, textOf};
 use rules::Answer;
 use wire::REPORT_LENGTH;
 
-// The most bytes that a line has: three digits, a space, two digits for each byte of the report, a line feed.
-pub const WIDTH: usize = 33;
+// The bytes that a report takes in a line: a space, and two digits for each of its own.
+const REPORT_WIDTH: usize = 1 + 2 * REPORT_LENGTH;
+
+// The most bytes that a line has: three digits, a report, a line feed.
+pub const WIDTH: usize = 3 + REPORT_WIDTH + 1;
 
 // A line: the first `length` of the bytes are its own.
 pub struct Line {
@@ -48,8 +51,8 @@ fn put_number(bytes: &mut [u8], n: u8) -> usize
 
 // Writes a space and a report from a place on.
 fn put_report(bytes: &mut [u8], at: usize, report: [u8; REPORT_LENGTH])
-    requires { ⌜ at + 29 ≤ length (now bytes) ⌝ }
-    ensures { λ _. ⌜ take (at + 29) (now (bytes .exit)) ≡ take at (now (bytes .entry)) ++ (space ∷ hexOf report) ⌝ }
+    requires { ⌜ at + reportWidth ≤ length (now bytes) ⌝ }
+    ensures { λ _. ⌜ take (at + reportWidth) (now (bytes .exit)) ≡ take at (now (bytes .entry)) ++ (space ∷ hexOf report) ⌝ }
 {
     bytes[at] = b' ';
     let mut next = at + 1;
@@ -63,13 +66,13 @@ fn put_report(bytes: &mut [u8], at: usize, report: [u8; REPORT_LENGTH])
 
 // Writes the report, where the answer has one, and tells where the text ends.
 fn put_answered(bytes: &mut [u8], at: usize, answer: Answer, report: [u8; REPORT_LENGTH]) -> usize
-    requires { ⌜ (at ≤ 3) × (32 ≤ length (now bytes)) ⌝ }
-    ensures { λ r. ⌜ r ≤ 32 ⌝ }
+    requires { ⌜ (at ≤ 3) × (3 + reportWidth ≤ length (now bytes)) ⌝ }
+    ensures { λ r. ⌜ r ≤ 3 + reportWidth ⌝ }
     ensures { λ r. ⌜ take r (now (bytes .exit)) ≡ take at (now (bytes .entry)) ++ cond (isAnswered answer) (space ∷ hexOf report) [] ⌝ }
 {
     if unit::is_answered(answer) {
         put_report(bytes, at, report);
-        return at + 29;
+        return at + REPORT_WIDTH;
     }
     at
 }
@@ -77,6 +80,7 @@ fn put_answered(bytes: &mut [u8], at: usize, answer: Answer, report: [u8; REPORT
 // The line of an answer; the report is read only where the answer has one.
 pub fn line_of(answer: Answer, report: [u8; REPORT_LENGTH]) -> Line
     ensures { λ r. ⌜ textOf r ≡ lineOf answer report ⌝ }
+    ensures { λ r. ⌜ r .length ≡ length (lineOf answer report) ⌝ }
 {
     let mut bytes = [0; WIDTH];
     let number = put_number(&mut bytes, unit::answer_number(answer));

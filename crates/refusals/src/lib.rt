@@ -6,15 +6,15 @@ ghost use mathlib.Core.Bool.{not, _&&_, _||_};
 ghost use mathlib.Core.List.{_∷_, []};
 ghost use Prim.Native.Nat.{_+_};
 ghost use lib.Dec.{eqb};
+ghost use Rattle.wire.specs.Codes.{longest};
 ghost use Rattle.wire.specs.Bytes.{sameBytes};
 ghost use Rattle.rules.specs.declared.Answer.{Answer};
 ghost use Rattle.rules.specs.declared.Code.{Code};
 ghost use Rattle.rules.specs.Numbers.{codeOf, isCode};
 ghost use Rattle.rules.specs.Places.{holdsCurve, allCurvesHeld, holdsSection, standsSection, allSectionsHeld};
 ghost use Rattle.rules.specs.Operands.{codeByte, numberOf};
-ghost use Rattle.rules.specs.Commands.{longest, padded};
-ghost use Rattle.rules.specs.Refusals.{isPath, isAllowed, ordersDA, rule, firstOf, rulesFor, answerOf};
-ghost use Rattle.refusals.specs.Forms.{answerBy};
+ghost use Rattle.rules.specs.Commands.{padded};
+ghost use Rattle.rules.specs.Refusals.{isPath, isAllowed, ordersDA, rule, firstOf, rulesFor, answerFor, answerOf};
 use encoding::fields::in_range;
 use encoding::numbers::code_of;
 use encoding::numbers::is_code;
@@ -31,11 +31,9 @@ use track::sections::all_sections_held;
 use track::sections::holds_section;
 use track::sections::stands_section;
 use wire::Form;
+use wire::LONGEST;
 use wire::be32;
 use wire::byte_at;
-
-// The bytes of the longest command, a start.
-pub const LONGEST: usize = 24;
 
 // The bytes of a command, with 0 after its end.
 pub fn padded(command: &[u8]) -> [u8; LONGEST]
@@ -219,7 +217,7 @@ fn judge(stm: Stm, command: &[u8], s: &[u8]) -> Answer
 
 // Refusals 1 to 4, by the form; a whole command has its own answer.
 fn by_form(form: Form, whole: Answer) -> Answer
-    ensures { λ r. ⌜ r ≡ answerBy form whole ⌝ }
+    ensures { λ r. ⌜ r ≡ answerFor form whole ⌝ }
 {
     match form {
         Form::WrongArea => Answer::WrongArea,

@@ -8,8 +8,9 @@ use Rattle.pressure.specs.Report.{reportedTo}
 use Rattle.curve.specs.declared.Curve.{Curve}
 use Rattle.curve.specs.Places.{movedAll}
 use Rattle.wire.specs.Numbers.{byteAt}
+use Rattle.wire.specs.Form.{operandsOf}
 use Rattle.rules.specs.Numbers.{codeOf, stateOf, isAccepted, isCode, isState}
-use Rattle.rules.specs.Operands.{codeByte, operandsOf, readingOf, curveOf, sectionOf}
+use Rattle.rules.specs.Operands.{codeByte, readingOf, curveOf, sectionOf}
 use Rattle.rules.specs.Places.{movedSection, movedTrack, givenCurve, endedCurve, givenSection, endedSection}
 use Rattle.rules.specs.Releases.{releasedBrakes}
 use Rattle.rules.specs.Odometer.{withState, withBrakes, seenIn, keptOf, moves, measures, notedTrack, notes, adds, releases, isFresh, supervised, reportedIn}

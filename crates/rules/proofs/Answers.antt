@@ -7,12 +7,12 @@ use lib.Dec.{eqb}
 use lib.ListN.{length}
 use borrow.Author.Tests.{not-false}
 use Rattle.wire.specs.declared.form.Form.{Form}
-use Rattle.wire.specs.Form.{formOf}
+use Rattle.wire.specs.Form.{formOf, operandsOf}
 use Rattle.pressure.specs.Phases.{isSet}
 use Rattle.rules.specs.Numbers.{codeOf, isState, isAccepted}
-use Rattle.rules.specs.Operands.{codeByte, numberOf, operandsOf, inRange}
+use Rattle.rules.specs.Operands.{codeByte, numberOf, inRange}
 use Rattle.rules.specs.Commands.{acceptedOf}
-use Rattle.rules.specs.Refusals.{isStart, isRepeat, isNext, isAllowed, ordersDA, endsNothing, findsNoPlace, firstOf, rulesFor, answerFor, answerOf}
+use Rattle.rules.specs.Refusals.{isStart, isRepeat, isNext, isAllowed, ordersDA, endsNothing, findsNoPlace, firstOf, rulesFor, wholeAnswer, answerFor, answerOf}
 use Rattle.rules.specs.Calls.{callOf}
 use Rattle.rules.specs.Runs.{Sent, answerTo, stateAfter}
 use Rattle.rules.specs.declared.Answer.{Answer}
@@ -102,7 +102,7 @@ passed-of stm command e =
       place = t .9;
     }
 
-by-form : (form : Form) (stm : Stm) (command : List ℕ) → isAccepted (answerFor form stm command) ≡ true
+by-form : (form : Form) (stm : Stm) (command : List ℕ) → isAccepted (answerFor form (wholeAnswer stm command)) ≡ true
     → (form ≡ Form.Whole) × Passed stm command
 by-form Form.WrongArea stm command e = impossible e
 by-form Form.NoBytes stm command e = impossible e

@@ -6,9 +6,10 @@ use mathlib.Core.Logic.{_⊎_, inl, inr}
 use mathlib.Core.List.{List}
 use borrow.Author.Tests.{not-false}
 use Rattle.wire.specs.Numbers.{byteAt}
+use Rattle.wire.specs.Form.{operandsOf}
 use Rattle.pressure.specs.Reference.{dropOf}
 use Rattle.rules.specs.Numbers.{codeOf, isState, isOrder, isAccepted}
-use Rattle.rules.specs.Operands.{codeByte, operandsOf}
+use Rattle.rules.specs.Operands.{codeByte}
 use Rattle.rules.specs.Places.{anyOf}
 use Rattle.rules.specs.Table.{causes, stands, strengthOf, standsWith, anyStands, addedCauses, leftCauses, orderedBy}
 use Rattle.rules.specs.Checks.{isDrop, begins, countedOn, failsNow, checkedAt, failsAt, checkedBy, checkLeft}

@@ -15,16 +15,16 @@ use Rattle.laws.proofs.Lists.{never, _∈_, not-true-false}
 use Rattle.wire.specs.Numbers.{byteAt}
 use Rattle.wire.specs.Codes.{commands}
 use Rattle.wire.specs.declared.form.Form.{Form}
-use Rattle.wire.specs.Form.{formOf, refusalOf}
+use Rattle.wire.specs.Form.{formOf, refusalOf, operandsOf}
 use Rattle.curve.specs.Intervals.{rankOf}
 use Rattle.curve.specs.Places.{permittedHere, leastPermitted}
 use Rattle.curve.specs.declared.Judged.{Judged}
 use Rattle.rules.specs.Numbers.{answerNumber, codeOf}
-use Rattle.rules.specs.Operands.{codeByte, operandsOf}
+use Rattle.rules.specs.Operands.{codeByte}
 use Rattle.rules.specs.Places.{anyOf, allOf, freeSection, endingSection, movedSection, allCurvesHeld, allSectionsHeld, holdsCurve, holdsSection}
 use Rattle.rules.specs.Speeds.{stopSpeed, vmaxOf, permittedSpeed}
 use Rattle.rules.specs.Shows.{candidate, noCandidate, isLower, goesBefore, chosenOf, chosenFrom, chosen}
-use Rattle.rules.specs.Refusals.{Rule, firstOf, rulesFor, findsNoPlace, answerFor, answerOf}
+use Rattle.rules.specs.Refusals.{Rule, firstOf, rulesFor, findsNoPlace, wholeAnswer, answerFor, answerOf}
 use Rattle.rules.specs.Calls.{callOf}
 use Rattle.rules.specs.Runs.{Sent, answerTo}
 use Rattle.rules.specs.Claims.{countedTimes, CodesAreTheTable, FirstFourAreWire, AllHeldMeansAll, SectionEndsAtRear, VmaxIsLeast, PermittedIsLeast, ShownIsFirst, CheckFailsAtLimit}
@@ -45,11 +45,11 @@ codes-are-the-table = (refl, code-told)
 
 pub first-four-are-wire : FirstFourAreWire
 unfolding refusalOf
-first-four-are-wire Form.WrongArea n stm command e = cc e
-first-four-are-wire Form.NoBytes n stm command e = cc e
-first-four-are-wire Form.NoCode n stm command e = cc e
-first-four-are-wire Form.WrongLength n stm command e = cc e
-first-four-are-wire Form.Whole n stm command e = absurd (never (cc))
+first-four-are-wire Form.WrongArea n whole e = cc e
+first-four-are-wire Form.NoBytes n whole e = cc e
+first-four-are-wire Form.NoCode n whole e = cc e
+first-four-are-wire Form.WrongLength n whole e = cc e
+first-four-are-wire Form.Whole n whole e = absurd (never (cc))
 
 -- ---- refusal 13
 
@@ -70,7 +70,7 @@ unfolding anyOf
 given-one [] e = absurd (false≢true e)
 given-one (r ∷ rs) e = given-first r rs (r .applies) (given-one rs) e
 
-given-whole : (form : Form) (stm : Stm) (command : List ℕ) → isAllHeld (answerFor form stm command) ≡ true
+given-whole : (form : Form) (stm : Stm) (command : List ℕ) → isAllHeld (answerFor form (wholeAnswer stm command)) ≡ true
     → findsNoPlace stm (codeOf (codeByte command)) (operandsOf command) ≡ true
 unfolding rulesFor anyOf
 given-whole Form.WrongArea stm command e = absurd (false≢true e)

@@ -19,8 +19,9 @@ use Rattle.curve.specs.Intervals.{intervalOf, rankOf}
 use Rattle.curve.specs.Judging.{isFastFor, isFast, brakesAt, judgedOf}
 use Rattle.curve.specs.Places.{anyBrakes}
 use Rattle.wire.specs.Numbers.{byteAt}
+use Rattle.wire.specs.Form.{operandsOf}
 use Rattle.rules.specs.Numbers.{bitNumber, isAccepted, codeOf}
-use Rattle.rules.specs.Operands.{codeByte, operandsOf}
+use Rattle.rules.specs.Operands.{codeByte}
 use Rattle.rules.specs.Places.{anyOf, allOf}
 use Rattle.rules.specs.Speeds.{brakingOf, judgedNow, vmaxOf}
 use Rattle.rules.specs.Table.{causes, stands, curveOrders, orderedAt, orderedBy, isSlow, releasableWhen, othersReleasable, isReleasable, addedCauses}

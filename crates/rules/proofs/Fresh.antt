@@ -8,10 +8,12 @@ use lib.Dec.{eqb, leb}
 use lib.ListN.{getD, replicate}
 use borrow.Author.Tests.{eqb-true, leb-true, ne-eqb}
 use Rattle.wire.specs.Numbers.{byteAt}
+use Rattle.wire.specs.Form.{operandsOf}
 use Rattle.pressure.specs.Report.{freshFeedback}
 use Rattle.rules.specs.Numbers.{isAccepted, isCode, isState, codeOf, stateOf}
-use Rattle.rules.specs.Operands.{codeByte, operandsOf, trainOf, readingOf, inRange}
-use Rattle.rules.specs.Places.{places, freeCurve, freeSection, freshTrack}
+use Rattle.rules.specs.Operands.{codeByte, trainOf, readingOf, inRange}
+use Rattle.curve.specs.Places.{places}
+use Rattle.rules.specs.Places.{freeCurve, freeSection, freshTrack}
 use Rattle.rules.specs.Table.{stands, noCauses}
 use Rattle.rules.specs.Releases.{freshBrakes, releasedBrakes}
 use Rattle.rules.specs.Odometer.{withState, withBrakes, seenIn, moves, measures, notes, adds, releases, isFresh, supervised, reportedIn}

@@ -10,10 +10,12 @@ use lib.ListN.{getD}
 use borrow.Author.Tests.{not-true, eqb-true, eq-eqb}
 use Rattle.curve.specs.declared.Curve.{Curve}
 use Rattle.curve.specs.Judging.{movedBy, judgedOf, notedAt}
-use Rattle.curve.specs.Places.{movedAll}
+use Rattle.curve.specs.Places.{movedHere, movedAll, judgedHere, notedHere}
+use Rattle.curve.proofs.Held.{held-moved, held-noted}
 use Rattle.wire.specs.Numbers.{byteAt}
+use Rattle.wire.specs.Form.{operandsOf}
 use Rattle.rules.specs.Numbers.{isAccepted, isCode, isState, codeOf, stateOf}
-use Rattle.rules.specs.Operands.{codeByte, operandsOf, twoAt, readingOf, curveOf, sectionOf}
+use Rattle.rules.specs.Operands.{codeByte, twoAt, readingOf, curveOf, sectionOf}
 use Rattle.rules.specs.Places.{placed, freeCurve, isCurve, holdsCurve, withPast, replacedCurve, givenCurve, endedCurve, movedTrack}
 use Rattle.rules.specs.Speeds.{brakingOf, judgedNow}
 use Rattle.rules.specs.Odometer.{keptOf, notedTrack, reportedIn}
@@ -76,21 +78,28 @@ lost-both {a} {b} {c} {m} {n} p q = record {
 abbrev pub notedIn : Train → Kept → Curve → Curve
 notedIn train kept curve = notedAt curve (judgedOf (brakingOf train (kept .halka)) (kept .speed) curve .interval)
 
+-- and a place with what it holds
+abbrev notedPlace : Train → Kept → Curve → Curve
+notedPlace train kept curve = notedHere curve (judgedHere (brakingOf train (kept .halka)) (kept .speed) curve)
+
 noted-curves : (train : Train) (kept : Kept) (track : Track)
-    → notedTrack train kept track .curves ≡ map (notedIn train kept) (track .curves)
+    → notedTrack train kept track .curves ≡ map (notedPlace train kept) (track .curves)
 unfolding notedTrack judgedNow
 noted-curves train kept track =
-    zip-self (λ curve j. notedAt curve (j .interval)) (judgedOf (brakingOf train (kept .halka)) (kept .speed)) (track .curves)
+    zip-self notedHere (judgedHere (brakingOf train (kept .halka)) (kept .speed)) (track .curves)
 
 pub noted-at : (train : Train) (kept : Kept) (track : Track) (place : ℕ) → getD (track .curves) place freeCurve .held ≡ true
     → getD (notedTrack train kept track .curves) place freeCurve ≡ notedIn train kept (getD (track .curves) place freeCurve)
 noted-at train kept track place held =
     rw (noted-curves train kept track)
-    (changed-at (λ curve. curve .held) freeCurve refl (notedIn train kept) (track .curves) place held)
+    (changed-at (λ curve. curve .held) freeCurve refl (notedPlace train kept) (track .curves) place held
+    ∙ held-noted (brakingOf train (kept .halka)) (kept .speed) (getD (track .curves) place freeCurve) held)
 
 module _ (stm : Stm) (place : ℕ) (held : curveAt place stm .held ≡ true) where
   pub moved-at : (moved : ℕ) → getD (movedAll moved (stm .track .curves)) place freeCurve ≡ movedBy (curveAt place stm) moved
-  moved-at moved = changed-at (λ curve. curve .held) freeCurve refl (λ curve. movedBy curve moved) (stm .track .curves) place held
+  moved-at moved =
+      changed-at (λ curve. curve .held) freeCurve refl (movedHere moved) (stm .track .curves) place held
+      ∙ held-moved moved (curveAt place stm) held
 
   report-lost : (state : State) (r : Reading)
       → HasLost (cond (isState State.HS state || isState State.DA state) (r .moved) 0) (curveAt place stm)

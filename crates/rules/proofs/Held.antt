@@ -8,9 +8,10 @@ use lib.Dec.{eqb}
 use lib.ListN.{getD}
 use borrow.Author.Tests.{eqb-true}
 use Rattle.wire.specs.Numbers.{byteAt}
+use Rattle.wire.specs.Form.{operandsOf}
 use Rattle.curve.specs.declared.Curve.{Curve}
 use Rattle.rules.specs.Numbers.{isAccepted, isCode, isState, codeOf, stateOf}
-use Rattle.rules.specs.Operands.{codeByte, operandsOf, readingOf, curveOf, sectionOf}
+use Rattle.rules.specs.Operands.{codeByte, readingOf, curveOf, sectionOf}
 use Rattle.rules.specs.Places.{freshTrack, freeCurve, freeSection, holdsCurve, holdsSection, allCurvesHeld, allSectionsHeld, withPast, endingSection, givenCurve, givenSection, endedCurve, endedSection, movedTrack}
 use Rattle.rules.specs.Odometer.{keptOf, notedTrack}
 use Rattle.rules.specs.Commands.{freshWith, entered, fortyBy, stopped, carriedOut}

@@ -7,17 +7,18 @@ use mathlib.Core.List.{List, [], _∷_}
 use lib.Dec.{leb}
 use lib.ListN.{length, drop, length-append}
 use borrow.Author.Tests.{leb-true}
+use Rattle.wire.specs.Codes.{longest}
 use Rattle.wire.specs.Numbers.{byteAt}
-use Rattle.wire.specs.Form.{reportLength}
+use Rattle.wire.specs.Form.{reportLength, operandsOf}
 use Rattle.pressure.specs.Phases.{isSet}
 use Rattle.curve.specs.declared.Curve.{Curve}
 use Rattle.rules.specs.Numbers.{isCode, isState, codeOf, stateOf, isAccepted}
-use Rattle.rules.specs.Operands.{codeByte, operandsOf, within, trainOf, trainInRange, startInRange, readingOf, curveOf, curveInRange, newCurveInRange, sectionOf, sectionInRange, inRange}
+use Rattle.rules.specs.Operands.{codeByte, within, trainOf, trainInRange, startInRange, readingOf, curveOf, curveInRange, newCurveInRange, sectionOf, sectionInRange, inRange}
 use Rattle.rules.specs.Places.{freshTrack, withCurves, withSections, withForty, givenCurve, endedCurve, givenSection, endedSection}
 use Rattle.rules.specs.Releases.{freshBrakes, brakesBy}
 use Rattle.rules.specs.Odometer.{withState, withTrack, withBrakes}
 use Rattle.rules.specs.Reports.{shownFields, reportWith, reportInDA, reportOutside, reportFor, reportOf}
-use Rattle.rules.specs.Commands.{longest, freshStm, entered, fortyBy, stopped, carriedOut, padded, remembered, acceptedOf}
+use Rattle.rules.specs.Commands.{freshStm, entered, fortyBy, stopped, carriedOut, padded, remembered, acceptedOf}
 use Rattle.rules.specs.Refusals.{isPath, isAllowed, ordersDA}
 use Rattle.rules.specs.Runs.{Sent, answerTo, stateAfter, stateAtEnd}
 use Rattle.rules.specs.Units.{isSectionSound, IsUnit, CallKeepsUnit, EveryRunIsUnit}

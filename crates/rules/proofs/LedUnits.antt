@@ -4,12 +4,13 @@ use Prim.Native.Nat.{ℕ, _≤_}
 use native.Mathlib.Nat.{le-refl}
 use mathlib.Core.Bool.{true, false}
 use mathlib.Core.List.{List, [], _∷_}
+use Rattle.wire.specs.Codes.{longest}
 use Rattle.pressure.specs.declared.Feed.{Feed}
 use Rattle.pressure.specs.declared.Phase.{Phase}
 use Rattle.pressure.specs.Convert.{kPa}
 use Rattle.rules.specs.Places.{freshTrack}
 use Rattle.rules.specs.Releases.{freshBrakes}
-use Rattle.rules.specs.Commands.{longest, freshStm, padded}
+use Rattle.rules.specs.Commands.{freshStm, padded}
 use Rattle.rules.specs.Runs.{Sent, stateAtEnd}
 use Rattle.rules.specs.TwoRuns.{TrainsCompared}
 use Rattle.rules.specs.Pairs.{inDA}

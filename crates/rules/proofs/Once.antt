@@ -7,16 +7,17 @@ use native.Mathlib.Omega.{arith}
 use lib.Dec.{eqb}
 use lib.ListN.{length}
 use borrow.Author.Tests.{not-true, not-false}
+use Rattle.wire.specs.Codes.{longest}
 use Rattle.wire.specs.Numbers.{byteAt, number}
-use Rattle.wire.specs.Form.{reportLength, formOf}
+use Rattle.wire.specs.Form.{reportLength, formOf, operandsOf}
 use Rattle.wire.specs.declared.form.Form.{Form}
 use Rattle.wire.proofs.Commands.{whole-area}
 use Rattle.wire.proofs.Equal.{equal-same}
 use Rattle.rules.specs.Numbers.{isAnswered, codeOf, stateOf, isCode, isState, isAccepted, isRefused}
-use Rattle.rules.specs.Operands.{codeByte, numberOf, operandsOf, readingOf}
+use Rattle.rules.specs.Operands.{codeByte, numberOf, readingOf}
 use Rattle.rules.specs.Odometer.{moves, measures, notes, adds, releases, supervised, reportedIn}
-use Rattle.rules.specs.Commands.{freshWith, entered, stopped, carriedOut, padded, longest, remembered, acceptedOf}
-use Rattle.rules.specs.Refusals.{isStart, isRepeat, isNext, rulesFor, answerFor, answerOf}
+use Rattle.rules.specs.Commands.{freshWith, entered, stopped, carriedOut, padded, remembered, acceptedOf}
+use Rattle.rules.specs.Refusals.{isStart, isRepeat, isNext, rulesFor, wholeAnswer, answerFor, answerOf}
 use Rattle.rules.specs.Calls.{callOf, areaOf}
 use Rattle.rules.specs.Runs.{Sent, Moment, answerTo, stateAfter, momentOf, moments, stateAtEnd, noneAccepted}
 use Rattle.rules.specs.Once.{StateChangesAtZeroOnly, RefusalLeavesArea, AnswerWritesReport, SentAgainIsAgain, acceptedNumbers, Follow, NumbersFollow, NoneAcceptedTwice, isLeft, thinned, momentsLeft, LeavingOutChangesNothing}
@@ -110,7 +111,7 @@ again-among started start number repeat next failed rest e f g =
 
 again-first : (stm : Stm) (command : List ℕ)
     → stm .control .started ≡ true → eqb (numberOf command) 0 ≡ false → isRepeat stm command ≡ true
-    → answerFor Form.Whole stm command ≡ Answer.Again
+    → answerFor Form.Whole (wholeAnswer stm command) ≡ Answer.Again
 unfolding rulesFor
 again-first stm command e f g =
     again-among (stm .control .started) (isStart command) (eqb (numberOf command) 0) (isRepeat stm command) (isNext stm command)

@@ -7,8 +7,9 @@ use mathlib.Core.List.{List}
 use borrow.Author.Tests.{leb-true}
 use lib.Dec.{leb}
 use Rattle.wire.specs.Numbers.{byteAt}
+use Rattle.wire.specs.Form.{operandsOf}
 use Rattle.rules.specs.Numbers.{codeOf, stateOf, bitNumber, isCode, isState, isAccepted}
-use Rattle.rules.specs.Operands.{codeByte, operandsOf, readingOf, within}
+use Rattle.rules.specs.Operands.{codeByte, readingOf, within}
 use Rattle.rules.specs.Table.{stands, causesFor, noCauses, orderedBy, isReleasable, addedCauses, pressedFor, isDropped, leftCauses}
 use Rattle.rules.specs.Releases.{freshBrakes, sinceAt, notedBrakes, serviceFails, causesAt, addedBrakes, leftBrakes, releasedBrakes, sinceBy, brakesBy}
 use Rattle.rules.specs.Odometer.{withState, withBrakes, seenWith, seenOf, seenIn, moves, measures, notes, adds, releases, isFresh, supervised, reportedIn}

@@ -10,7 +10,8 @@ use Rattle.curve.specs.declared.Curve.{Curve}
 use Rattle.curve.specs.Claims.{Stricter}
 use Rattle.curve.proofs.Stricter.{same}
 use Rattle.rules.specs.Numbers.{codeOf}
-use Rattle.rules.specs.Places.{anyOf, freeCurve, freeSection, places}
+use Rattle.curve.specs.Places.{places}
+use Rattle.rules.specs.Places.{anyOf, freeCurve, freeSection}
 use Rattle.rules.specs.Runs.{moments}
 use Rattle.rules.specs.Units.{IsUnit}
 use Rattle.rules.specs.TwoRuns.{TrainsCompared, TracksCompared, Compared, Both, Faster, RefusedAlike, NoServiceFault, NoEmergencyFault, InGear, UnexpectedStopAlike, Presumed, Claimed, ClaimGiven}

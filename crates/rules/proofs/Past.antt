@@ -6,6 +6,7 @@ use mathlib.Core.List.{List, [], _∷_}
 use lib.Dec.{eqb, leb}
 use lib.ListN.{getD}
 use Rattle.wire.specs.Numbers.{byteAt}
+use Rattle.wire.specs.Form.{operandsOf}
 use Rattle.curve.specs.declared.Curve.{Curve}
 use Rattle.curve.specs.declared.Interval.{Interval}
 use Rattle.curve.specs.Deceleration.{levelOf}
@@ -13,7 +14,7 @@ use Rattle.curve.specs.Boundary.{targetOf, isAbove, lineFor, isReached, isReach
 use Rattle.curve.specs.Intervals.{intervalOf, rankOf}
 use Rattle.curve.specs.Judging.{movedBy, judgedOf, notedAt}
 use Rattle.rules.specs.Numbers.{isAccepted, isCode, isState, codeOf, stateOf}
-use Rattle.rules.specs.Operands.{codeByte, operandsOf, readingOf, curveOf}
+use Rattle.rules.specs.Operands.{codeByte, readingOf, curveOf}
 use Rattle.rules.specs.Places.{freeCurve, withPast, givenCurve, endedCurve, movedTrack}
 use Rattle.rules.specs.Speeds.{brakingOf}
 use Rattle.rules.specs.Odometer.{keptOf, moves, measures, notes}

@@ -6,11 +6,12 @@ use mathlib.Core.List.{List, [], _∷_}
 use lib.IntN.{ℤ}
 use borrow.Author.Tests.{not-true}
 use Rattle.wire.specs.Numbers.{byteAt}
+use Rattle.wire.specs.Form.{operandsOf}
 use Rattle.pressure.specs.declared.Measured.{Measured}
 use Rattle.pressure.specs.Report.{reportedTo}
 use Rattle.pressure.specs.Claims.{afterAll}
 use Rattle.rules.specs.Numbers.{isAccepted, isCode, isState, codeOf, stateOf}
-use Rattle.rules.specs.Operands.{codeByte, operandsOf, readingOf}
+use Rattle.rules.specs.Operands.{codeByte, readingOf}
 use Rattle.rules.specs.Odometer.{keptOf, reportedIn}
 use Rattle.rules.specs.Commands.{entered, stopped, carriedOut}
 use Rattle.rules.specs.Runs.{Sent, answerTo, stateAfter, stateAtEnd, noneAccepted, isOf}

@@ -8,15 +8,16 @@ use native.Mathlib.Omega.{arith}
 use lib.Dec.{eqb}
 use lib.ListN.{length}
 use borrow.Author.Tests.{eqb-true, not-true, not-false}
+use Rattle.wire.specs.Codes.{longest}
 use Rattle.wire.specs.declared.form.Form.{Form}
-use Rattle.wire.specs.Form.{formOf}
+use Rattle.wire.specs.Form.{formOf, operandsOf}
 use Rattle.wire.specs.Numbers.{number}
 use Rattle.wire.proofs.Equal.{same-equal}
 use Rattle.laws.proofs.Lists.{every, cond-first}
 use Rattle.rules.specs.Numbers.{answerNumber, codeOf, isAccepted, isRefused}
-use Rattle.rules.specs.Operands.{codeByte, numberOf, operandsOf}
-use Rattle.rules.specs.Commands.{longest, padded}
-use Rattle.rules.specs.Refusals.{isStart, isRepeat, isNext, Rule, firstOf, rulesFor, answerFor, answerOf}
+use Rattle.rules.specs.Operands.{codeByte, numberOf}
+use Rattle.rules.specs.Commands.{padded}
+use Rattle.rules.specs.Refusals.{isStart, isRepeat, isNext, Rule, firstOf, rulesFor, wholeAnswer, answerFor, answerOf}
 use Rattle.rules.specs.Calls.{callOf}
 use Rattle.rules.specs.Runs.{Sent, answerTo}
 use Rattle.rules.specs.declared.Answer.{Answer}
@@ -49,7 +50,7 @@ unfolding rulesFor
 rules-spare stm command e = list-spares (rulesFor stm command (codeOf (codeByte command)) (operandsOf command)) (rw e)
 
 form-spares : (form : Form) (stm : Stm) (command : List ℕ) → isRepeat stm command ≡ false
-    → isAgain (answerFor form stm command) ≡ false
+    → isAgain (answerFor form (wholeAnswer stm command)) ≡ false
 form-spares Form.WrongArea stm command e = refl
 form-spares Form.NoBytes stm command e = refl
 form-spares Form.NoCode stm command e = refl

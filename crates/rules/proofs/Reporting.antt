@@ -6,7 +6,7 @@ use mathlib.Core.List.{List}
 use lib.Dec.{leb}
 use Rattle.wire.specs.Numbers.{byteAt}
 use Rattle.pressure.specs.Phases.{isSet}
-use Rattle.curve.specs.Judging.{judgedOf}
+use Rattle.curve.specs.Places.{judgedHere}
 use Rattle.rules.specs.Operands.{twoAt, readingOf, odometerInRange}
 use Rattle.rules.specs.Places.{movedTrack}
 use Rattle.rules.specs.Speeds.{brakingOf, judgedNow}
@@ -63,7 +63,7 @@ noted-track : (train : Train) (kept : Kept) (track : Track) → TrackSound (trai
     → TrackSound (train .length) (notedTrack train kept track)
 unfolding notedTrack judgedNow
 noted-track train kept track t = record {
-  curves = curves-noted (track .curves) (t .curves) (judgedOf (brakingOf train (kept .halka)) (kept .speed));
+  curves = curves-noted (track .curves) (t .curves) (judgedHere (brakingOf train (kept .halka)) (kept .speed));
   sections = t .sections;
 }
 

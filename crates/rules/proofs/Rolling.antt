@@ -10,8 +10,9 @@ use mathlib.Core.List.{List, [], _∷_, map}
 use lib.Dec.{eqb, ltb}
 use borrow.Author.Tests.{ltb-true, lt-ltb, le-ltb, not-true}
 use Rattle.wire.specs.Numbers.{byteAt}
+use Rattle.wire.specs.Form.{operandsOf}
 use Rattle.rules.specs.Numbers.{codeOf, isCode, isState, isAccepted}
-use Rattle.rules.specs.Operands.{codeByte, operandsOf, readingOf}
+use Rattle.rules.specs.Operands.{codeByte, readingOf}
 use Rattle.rules.specs.Places.{anyOf, allOf}
 use Rattle.rules.specs.Table.{stands, isReleasable, releasableWhen}
 use Rattle.rules.specs.Releases.{freshBrakes, isHalt, rolledOn, rollAt, isRolled, rollBack, notedBrakes, addedBrakes, rollLeft, leftBrakes, brakesBy}

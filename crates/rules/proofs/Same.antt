@@ -8,7 +8,7 @@ use mathlib.Core.List.{List, [], _∷_}
 use lib.ListN.{length, getD, drop}
 use borrow.Author.Tests.{not-true}
 use Rattle.wire.specs.Numbers.{byteAt}
-use Rattle.wire.specs.Codes.{lengthOf}
+use Rattle.wire.specs.Codes.{lengthOf, longest}
 use Rattle.wire.specs.Form.{formOf}
 use Rattle.wire.specs.declared.form.Form.{Form}
 use Rattle.wire.specs.declared.codes.Length.{Length}
@@ -16,8 +16,8 @@ use Rattle.wire.proofs.Commands.{whole-length}
 use Rattle.wire.proofs.Equal.{same-equal}
 use Rattle.wire.proofs.Table.{lengths-within}
 use Rattle.rules.specs.Numbers.{answerNumber, isAccepted, isRefused}
-use Rattle.rules.specs.Commands.{longest, padded, remembered, acceptedOf}
-use Rattle.rules.specs.Refusals.{isRepeat, answerFor, answerOf}
+use Rattle.rules.specs.Commands.{padded, remembered, acceptedOf}
+use Rattle.rules.specs.Refusals.{isRepeat, wholeAnswer, answerFor, answerOf}
 use Rattle.rules.specs.Calls.{callOf}
 use Rattle.rules.specs.Runs.{Sent, answerTo, stateAfter, stateAtEnd, noneAccepted}
 use Rattle.rules.specs.Once.{AgainIsTheLast}
@@ -62,7 +62,7 @@ whole-equal s t a b e f same =
 
 -- ---- answers
 
-again-whole : (form : Form) (stm : Stm) (command : List ℕ) → isAgain (answerFor form stm command) ≡ true → form ≡ Form.Whole
+again-whole : (form : Form) (stm : Stm) (command : List ℕ) → isAgain (answerFor form (wholeAnswer stm command)) ≡ true → form ≡ Form.Whole
 again-whole Form.WrongArea stm command e = impossible e
 again-whole Form.NoBytes stm command e = impossible e
 again-whole Form.NoCode stm command e = impossible e

@@ -9,8 +9,9 @@ use mathlib.Core.List.{List, [], _∷_, map}
 use lib.Dec.{eqb, leb}
 use lib.ListN.{getD}
 use Rattle.wire.specs.Numbers.{byteAt}
+use Rattle.wire.specs.Form.{operandsOf}
 use Rattle.rules.specs.Numbers.{isAccepted, isCode, isState, codeOf, stateOf}
-use Rattle.rules.specs.Operands.{codeByte, operandsOf, twoAt, readingOf, sectionOf}
+use Rattle.rules.specs.Operands.{codeByte, twoAt, readingOf, sectionOf}
 use Rattle.rules.specs.Places.{anyOf, placed, freeSection, endingSection, givenSection, endedSection, movedSection, movedTrack}
 use Rattle.rules.specs.Odometer.{keptOf, notedTrack}
 use Rattle.rules.specs.Commands.{stopped, carriedOut}

@@ -5,8 +5,9 @@ use mathlib.Core.Bool.{Bool, true, false, not, _&&_, _||_, or-true, and-false}
 use mathlib.Core.List.{List, [], _∷_}
 use borrow.Author.Tests.{not-true, eq-eqb}
 use Rattle.wire.specs.Numbers.{byteAt}
+use Rattle.wire.specs.Form.{operandsOf}
 use Rattle.rules.specs.Numbers.{codeOf, isState, isAccepted}
-use Rattle.rules.specs.Operands.{codeByte, operandsOf}
+use Rattle.rules.specs.Operands.{codeByte}
 use Rattle.rules.specs.Table.{stands, orderedBy, isStop, isReleasable, releasableWhen}
 use Rattle.rules.specs.Releases.{isHalt, sinceAt, sinceBy, brakesBy}
 use Rattle.rules.specs.Commands.{stopped}

@@ -9,8 +9,9 @@ use lib.ListN.{getD}
 use borrow.Author.Tests.{eqb-true, eq-eqb}
 use Rattle.laws.proofs.Lists.{not-true-false}
 use Rattle.wire.specs.Numbers.{byteAt}
+use Rattle.wire.specs.Form.{operandsOf}
 use Rattle.rules.specs.Numbers.{codeOf, isState, isAccepted, bitNumber}
-use Rattle.rules.specs.Operands.{codeByte, operandsOf, readingOf, bitOf}
+use Rattle.rules.specs.Operands.{codeByte, readingOf, bitOf}
 use Rattle.rules.specs.Table.{causes, stands, orderedBy, isStop, isReleasable, releasableWhen}
 use Rattle.rules.specs.Releases.{isHalt, isBraked, sinceAt, sinceBy, brakesBy}
 use Rattle.rules.specs.Reports.{reportOf}

@@ -11,7 +11,7 @@ use lib.ListN.{length}
 use borrow.Author.Tests.{le-leb, lt-leb, ne-eqb, eq-eqb, leb-true}
 use Rattle.wire.specs.Numbers.{byteAt}
 use Rattle.rules.specs.Numbers.{codeOf, isState, isAccepted}
-use Rattle.rules.specs.Operands.{codeByte, operandsOf}
+use Rattle.rules.specs.Operands.{codeByte}
 use Rattle.rules.specs.Places.{anyOf}
 use Rattle.rules.specs.Table.{stands, noCauses, anyStands, standsWith, orderedAt}
 use Rattle.rules.specs.Checks.{isDrop, begins, countedOn, failsNow, checkedAt, failsAt, checkedBy}
@@ -31,6 +31,7 @@ use Rattle.rules.specs.declared.Order.{Order}
 use Rattle.rules.specs.declared.Stm.{Stm}
 use Rattle.rules.proofs.Answers.{after-other}
 use Rattle.laws.proofs.Lists.{not-true-false}
+use Rattle.wire.specs.Form.{operandsOf}
 use Rattle.rules.proofs.Tests.{impossible, both, neither}
 use Rattle.rules.proofs.Ordering.{brakes-after, addedAt, fresh-brakes, ByOther, unchanged, orders, brakes-by-other}
 use Rattle.rules.proofs.Readings.{train-once}

@@ -5,7 +5,8 @@ use mathlib.Core.List.{List, [], _∷_}
 use lib.ListN.{take, drop}
 use lib.Seq.{drop-drop, getD-drop}
 use Rattle.wire.specs.Numbers.{byteAt, number, signed}
-use Rattle.rules.specs.Operands.{codeByte, numberOf, operandsOf, twoAt, bitOf, readingOf}
+use Rattle.wire.specs.Form.{operandsOf}
+use Rattle.rules.specs.Operands.{codeByte, numberOf, twoAt, bitOf, readingOf}
 use Rattle.rules.specs.Runs.{Sent}
 use Rattle.rules.specs.TwoRuns.{Faster, InGear}
 use Rattle.rules.proofs.TwoUnits.{ReadingsBelow}

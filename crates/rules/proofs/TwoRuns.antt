@@ -4,9 +4,10 @@ use mathlib.Core.Path.{_≡_, refl, sym, _∙_, ap}
 use mathlib.Core.Bool.{Bool, true, false, false≢true, _||_}
 use mathlib.Core.List.{List, [], _∷_}
 use native.Mathlib.Nat.{le-refl}
+use Rattle.wire.specs.Form.{operandsOf}
 use Rattle.curve.specs.Deceleration.{levelOf}
 use Rattle.rules.specs.Numbers.{codeOf, isCode, isAccepted, isRefused}
-use Rattle.rules.specs.Operands.{codeByte, numberOf, operandsOf, readingOf}
+use Rattle.rules.specs.Operands.{codeByte, numberOf, readingOf}
 use Rattle.rules.specs.Speeds.{brakingOf}
 use Rattle.rules.specs.Table.{stands}
 use Rattle.rules.specs.Odometer.{reportedIn}

@@ -19,6 +19,7 @@ use Rattle.curve.specs.Places.{judgedAll, permittedHere, leastPermitted, brakes
 use Rattle.curve.specs.Claims.{Stricter, WeakerBraking}
 use Rattle.curve.proofs.Stricter.{interval-is-not-earlier, still-brakes}
 use Rattle.curve.proofs.Halving.{permitted-is-not-higher}
+use Rattle.curve.proofs.Held.{permits-here, brakes-here}
 use Rattle.rules.specs.Places.{anyOf}
 use Rattle.rules.specs.Speeds.{brakingOf, judgedNow, sectionSpeed, stopSpeed, vmaxOf, permittedSpeed}
 use Rattle.rules.specs.TwoRuns.{TrainsCompared}
@@ -64,13 +65,14 @@ pub least-permitted-is : (braking : Braking) (v : ℕ) (curves : List Curve)
     → leastPermitted (judgedAll braking v curves) ≡ foldr min 300 (map (permits braking v) curves)
 unfolding leastPermitted
 least-permitted-is braking v [] = refl
-least-permitted-is braking v (curve ∷ curves) = rw (least-permitted-is braking v curves)
+least-permitted-is braking v (curve ∷ curves) = rw (permits-here braking v curve, least-permitted-is braking v curves)
 
 pub any-brakes-is : (interval : Interval) (braking : Braking) (v : ℕ) (curves : List Curve)
     → anyBrakes interval (judgedAll braking v curves) ≡ anyOf (brakes interval braking v) curves
 unfolding anyBrakes anyOf
 any-brakes-is interval braking v [] = refl
-any-brakes-is interval braking v (curve ∷ curves) = rw (any-brakes-is interval braking v curves)
+any-brakes-is interval braking v (curve ∷ curves) =
+    rw (brakes-here braking v curve interval, any-brakes-is interval braking v curves)
 
 -- a held curve of the first has a stricter one in the second
 stricter-held : {curves curves′ : List Curve} → CurvesBelow curves curves′ → (curve : Curve) → curve ∈ curves → curve .held ≡ true

@@ -8,9 +8,9 @@ use lib.Dec.{eqb}
 use borrow.Author.Tests.{eq-eqb, eqb-true}
 use Rattle.curve.specs.declared.Curve.{Curve}
 use Rattle.curve.specs.declared.Braking.{Braking}
-use Rattle.curve.specs.Judging.{movedBy, judgedOf, notedAt}
-use Rattle.curve.specs.Places.{judgedAll, notedAll}
+use Rattle.curve.specs.Places.{movedHere, judgedHere, judgedAll, notedHere, notedAll}
 use Rattle.curve.specs.Claims.{Stricter}
+use Rattle.curve.proofs.Held.{held-moved, held-noted, moved-held, moved-id, noted-held, noted-id}
 use Rattle.rules.specs.Places.{isCurve, holdsCurve, movedSection, movedTrack}
 use Rattle.rules.specs.Speeds.{brakingOf, judgedNow}
 use Rattle.rules.specs.Odometer.{notedTrack}
@@ -85,7 +85,7 @@ module _ {change : Curve → Curve} (keeps : Keeps change) where
       )
 
 curves-changed : {change change′ : Curve → Curve} → Keeps change → Keeps change′
-    → ((curve curve′ : Curve) → Stricter curve curve′ → Stricter (change curve) (change′ curve′))
+    → ((curve curve′ : Curve) → curve .held ≡ true → curve′ .held ≡ true → Stricter curve curve′ → Stricter (change curve) (change′ curve′))
     → {curves curves′ : List Curve} → CurvesBelow curves curves′ → CurvesBelow (map change curves) (map change′ curves′)
 curves-changed {change′ = change′} keeps keeps′ h {curves} {curves′} below = record {
   partner = λ curve holds.
@@ -95,27 +95,30 @@ curves-changed {change′ = change′} keeps keeps′ h {curves} {curves′} bel
   stricter = λ curve curve′ holds holds′ same.
       let (before, was, e, id) = held-before keeps curves holds in
       let (before′, was′, e′, id′) = held-before keeps′ curves′ holds′ in
-      subst₂ Stricter e e′ (h before before′ (below .stricter before before′ was was′ (id′ ∙ same ∙ sym id)));
+      let closer = below .stricter before before′ was was′ (id′ ∙ same ∙ sym id) in
+      subst₂ Stricter e e′ (h before before′ (was .held) (was′ .held) closer);
 }
 
 -- ---- ground moved
 
-moved-keeps : (moved : ℕ) → Keeps (λ curve. movedBy curve moved)
-moved-keeps moved = record { held = λ curve. refl; id = λ curve. refl }
+moved-keeps : (moved : ℕ) → Keeps (movedHere moved)
+moved-keeps moved = record { held = moved-held moved; id = moved-id moved }
 
-moved-stricter : (moved : ℕ) (curve curve′ : Curve)
-    → Stricter curve curve′ → Stricter (movedBy curve moved) (movedBy curve′ moved)
-moved-stricter moved curve curve′ stricter = record {
-  kind = stricter .kind;
-  gradient = stricter .gradient;
-  distance = omega (arith, stricter .distance);
-  speed = stricter .speed;
-}
+moved-stricter : (moved : ℕ) (curve curve′ : Curve) → curve .held ≡ true → curve′ .held ≡ true
+    → Stricter curve curve′ → Stricter (movedHere moved curve) (movedHere moved curve′)
+moved-stricter moved curve curve′ held held′ stricter =
+    rw (held-moved moved curve held, held-moved moved curve′ held′)
+    (record {
+      kind = stricter .kind;
+      gradient = stricter .gradient;
+      distance = omega (arith, stricter .distance);
+      speed = stricter .speed;
+    })
 
 -- a section is held only where it was held before
-moved-held : (length moved : ℕ) (section : Section) → movedSection length moved section .held ≡ true → section .held ≡ true
+section-held : (length moved : ℕ) (section : Section) → movedSection length moved section .held ≡ true → section .held ≡ true
 unfolding movedSection
-moved-held length moved section = by (section .held) refl
+section-held length moved section = by (section .held) refl
   where
     by : (t : Bool) → section .held ≡ t → movedSection length moved section .held ≡ true → section .held ≡ true
     by true e h = e
@@ -125,7 +128,7 @@ sections-moved : (length moved : ℕ) {sections sections′ : List Section} → 
     → SectionsBelow (map (movedSection length moved) sections) (map (movedSection length moved) sections′)
 sections-moved length moved {sections} {sections′} below section holds =
     let (before, place, e) = Memᴰ·of-map (movedSection length moved) sections (holds .place) in
-    let was = moved-held length moved before (ap (λ s. s .held) e ∙ holds .held) in
+    let was = section-held length moved before (ap (λ s. s .held) e ∙ holds .held) in
     let holds′ : HoldsSection sections′ before = below before (record { place = place; held = was }) in
     record { place = Memᴰ·cast (sym e) (Memᴰ·map (movedSection length moved) (holds′ .place)); held = holds .held }
 
@@ -141,7 +144,7 @@ tracks-moved length moved below = record {
 -- ---- past in B noted
 
 abbrev noted : Braking → ℕ → Curve → Curve
-noted braking v curve = notedAt curve (judgedOf braking v curve .interval)
+noted braking v curve = notedHere curve (judgedHere braking v curve)
 
 noted-is : (braking : Braking) (v : ℕ) (curves : List Curve)
     → notedAll curves (judgedAll braking v curves) ≡ map (noted braking v) curves
@@ -150,12 +153,16 @@ noted-is braking v [] = refl
 noted-is braking v (curve ∷ curves) = ap (noted braking v curve ∷_) (noted-is braking v curves)
 
 noted-keeps : (braking : Braking) (v : ℕ) → Keeps (noted braking v)
-noted-keeps braking v = record { held = λ curve. refl; id = λ curve. refl }
+noted-keeps braking v = record {
+  held = λ curve. noted-held curve (judgedHere braking v curve);
+  id = λ curve. noted-id curve (judgedHere braking v curve);
+}
 
-noted-stricter : (braking braking′ : Braking) (v v′ : ℕ) (curve curve′ : Curve)
+noted-stricter : (braking braking′ : Braking) (v v′ : ℕ) (curve curve′ : Curve) → curve .held ≡ true → curve′ .held ≡ true
     → Stricter curve curve′ → Stricter (noted braking v curve) (noted braking′ v′ curve′)
-noted-stricter braking braking′ v v′ curve curve′ stricter =
-    record { kind = stricter .kind; gradient = stricter .gradient; distance = stricter .distance; speed = stricter .speed }
+noted-stricter braking braking′ v v′ curve curve′ held held′ stricter =
+    rw (held-noted braking v curve held, held-noted braking′ v′ curve′ held′)
+    (record { kind = stricter .kind; gradient = stricter .gradient; distance = stricter .distance; speed = stricter .speed })
 
 pub tracks-noted : (train train′ : Train) (kept kept′ : Kept) {track track′ : Track} → TracksBelow track track′
     → TracksBelow (notedTrack train kept track) (notedTrack train′ kept′ track′)

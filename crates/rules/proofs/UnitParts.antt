@@ -3,6 +3,7 @@ use mathlib.Core.Path.{_≡_, refl}
 use mathlib.Core.Bool.{Bool, true, false, _||_}
 use lib.Dec.{leb}
 use lib.ListN.{length}
+use Rattle.wire.specs.Codes.{longest}
 use Rattle.wire.specs.Form.{reportLength}
 use Rattle.pressure.specs.declared.Measured.{Measured}
 use Rattle.pressure.specs.declared.Phase.{Phase}
@@ -14,7 +15,7 @@ use Rattle.rules.specs.Places.{anyOf}
 use Rattle.rules.specs.Table.{noCauses, anyStands}
 use Rattle.rules.specs.Releases.{freshBrakes}
 use Rattle.rules.specs.Odometer.{withTrack, withBrakes}
-use Rattle.rules.specs.Commands.{longest, freshKept, freshLast, freshWith, freshStm, noTrain}
+use Rattle.rules.specs.Commands.{freshKept, freshLast, freshWith, freshStm, noTrain}
 use Rattle.rules.specs.Units.{Reached, IsUnit, FreshIsUnit}
 use Rattle.rules.specs.declared.State.{State}
 use Rattle.rules.specs.declared.Train.{Train}

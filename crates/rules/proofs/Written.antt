@@ -5,7 +5,7 @@ use native.Mathlib.Omega.{arith}
 use native.Mathlib.Decide.{decLt}
 use mathlib.Core.Bool.{Bool, true, false, cond, not, _&&_, _||_, false≢true, and-true, and-false, or-false}
 use mathlib.Core.Logic.{_⊎_, inl, inr}
-use mathlib.Core.List.{List, [], _∷_, _++_, map, zipWith, List·Memᴰ, Memᴰ·map, Memᴰ·of-map}
+use mathlib.Core.List.{List, [], _∷_, _++_, map, zipWith, List·Memᴰ, Memᴰ·cast, Memᴰ·map, Memᴰ·of-map}
 use lib.Dec.{eqb, leb, ltb}
 use lib.ListN.{length, getD, drop}
 use borrow.Author.Tests.{eqb-true, eqb-false, ne-eqb, not-true, not-false, ltb-false, le-leb}
@@ -17,10 +17,11 @@ use Rattle.curve.specs.declared.Curve.{Curve}
 use Rattle.curve.specs.declared.Interval.{Interval}
 use Rattle.curve.specs.declared.Judged.{Judged}
 use Rattle.curve.specs.Deceleration.{levelOf}
-use Rattle.curve.specs.Intervals.{rankOf, shownOf, numberOf}
+use Rattle.curve.specs.Intervals.{rankOf, shownOf, shownNumber}
 use Rattle.curve.specs.Permitted.{permittedOf}
 use Rattle.curve.specs.Judging.{judgedOf}
-use Rattle.curve.specs.Places.{judgedAll}
+use Rattle.curve.specs.Places.{judgedHere, judgedAll}
+use Rattle.curve.proofs.Held.{held-judged, judged-held}
 use Rattle.rules.specs.Numbers.{isAccepted, isRefused, isState, stateNumber, orderNumber, barNumber, modeNumber, bitNumber}
 use Rattle.rules.specs.Operands.{bitOf}
 use Rattle.rules.specs.Places.{anyOf, freeCurve}
@@ -107,7 +108,7 @@ module _ (stm : Stm) where
       ∷ orderNumber (orderOf (stm .train .softly) (stm .brakes .causes))
       ∷ two (causesNumber (stm .brakes .causes)) (two (permittedSpeed vmax judged) (two vmax
       (fourth (λ c. c .curve .id) 255
-      ∷ fourth (λ c. numberOf (shownAs c)) 0
+      ∷ fourth (λ c. shownNumber (shownAs c)) 0
       ∷ fourth (λ c. barNumber (barOf (shownAs c))) 0
       ∷ fourth modeOfShown 0
       ∷ messagesOf (stm .brakes) (stm .feedback)
@@ -120,7 +121,7 @@ module _ (stm : Stm) where
       ap (λ four. 3 ∷ orderNumber (orderOf (stm .train .softly) (stm .brakes .causes))
       ∷ two (causesNumber (stm .brakes .causes)) (two (permittedSpeed vmax judged) (two vmax
       (four ++ (messagesOf (stm .brakes) (stm .feedback) ∷ offeredOf (seenIn stm) (stm .brakes .causes) ∷ [])))))
-      (cond-four (shown .judged .held) (shown .curve .id) (numberOf (shownAs shown)) (barNumber (barOf (shownAs shown)))
+      (cond-four (shown .judged .held) (shown .curve .id) (shownNumber (shownAs shown)) (barNumber (barOf (shownAs shown)))
       (modeOfShown shown) 255 0 0 0)
 
   pub in-da : isIn State.DA stm ≡ true → reportOf stm ≡ inDA
@@ -145,15 +146,20 @@ module _ (stm : Stm) where
   judged-in : {curve : Curve} → Holds (stm .track .curves) curve
       → judgedOf (brakingOf (stm .train) (stm .kept .halka)) (stm .kept .speed) curve ∈ judged
   unfolding judgedNow
-  judged-in holds = Memᴰ·map (judgedOf (brakingOf (stm .train) (stm .kept .halka)) (stm .kept .speed)) (holds .place)
+  judged-in {curve} holds =
+      let braking = brakingOf (stm .train) (stm .kept .halka) in
+      Memᴰ·cast (sym (held-judged braking (stm .kept .speed) curve (holds .held)))
+      (Memᴰ·map (judgedHere braking (stm .kept .speed)) (holds .place))
 
   judged-from : (j : Judged) → j ∈ judged → j .held ≡ true
       → (curve : Curve) × Holds (stm .track .curves) curve × (j .permitted ≡ permits stm curve)
   unfolding judgedNow judgedOf brakingOf levelOf
   judged-from j m h =
-      let (curve, place, e) =
-      Memᴰ·of-map (judgedOf (brakingOf (stm .train) (stm .kept .halka)) (stm .kept .speed)) (stm .track .curves) m in
-      (curve, record { place = place; held = ap (λ k. k .held) e ∙ h }, sym (ap (λ k. k .permitted) e))
+      let braking = brakingOf (stm .train) (stm .kept .halka) in
+      let (curve, place, e) = Memᴰ·of-map (judgedHere braking (stm .kept .speed)) (stm .track .curves) m in
+      let held = sym (judged-held braking (stm .kept .speed) curve) ∙ ap (λ k. k .held) e ∙ h in
+      let is = sym e ∙ held-judged braking (stm .kept .speed) curve held in
+      (curve, record { place = place; held = held }, ap (λ k. k .permitted) is)
 
   permitted-largest : Largest (UpToPermitted stm vmax) (permittedSpeed vmax judged)
   unfolding judgedOf brakingOf levelOf
@@ -236,24 +242,25 @@ report-in-da stm x e d = rw (written-is stm x e, in-da (stateAfter stm x) d) (wr
 -- ---- the shown curve
 
 module _ (stm : Stm) where
-  -- a curve with what it says
+  -- a place with what it says, and a curve with what it says
   abbrev says : Curve → Candidate
-  says curve = candidate curve (judgedOf (brakingOf (stm .train) (stm .kept .halka)) (stm .kept .speed) curve)
+  says curve = candidate curve (judgedHere (brakingOf (stm .train) (stm .kept .halka)) (stm .kept .speed) curve)
+
+  abbrev told : Curve → Candidate
+  told curve = candidate curve (judgedOf (brakingOf (stm .train) (stm .kept .halka)) (stm .kept .speed) curve)
+
+  says-held : (curve : Curve) → curve .held ≡ true → says curve ≡ told curve
+  says-held curve held = ap (candidate curve) (held-judged (brakingOf (stm .train) (stm .kept .halka)) (stm .kept .speed) curve held)
+
+  held-said : (curve : Curve) → says curve .judged .held ≡ curve .held
+  held-said curve = judged-held (brakingOf (stm .train) (stm .kept .halka)) (stm .kept .speed) curve
 
   candidates : zipWith candidate (stm .track .curves) (judged stm) ≡ map says (stm .track .curves)
   unfolding judgedNow
-  candidates = zip-self candidate (judgedOf (brakingOf (stm .train) (stm .kept .halka)) (stm .kept .speed)) (stm .track .curves)
-
-  says-interval : (curve : Curve) → says curve .judged .interval ≡ intervalIn stm curve
-  unfolding judgedOf brakingOf levelOf
-  says-interval curve = refl
-
-  says-permitted : (curve : Curve) → says curve .judged .permitted ≡ permits stm curve
-  unfolding judgedOf brakingOf levelOf
-  says-permitted curve = refl
+  candidates = zip-self candidate (judgedHere (brakingOf (stm .train) (stm .kept .halka)) (stm .kept .speed)) (stm .track .curves)
 
   -- of two, one that the other does not go before
-  goes-first : (curve other : Curve) → goesBefore (says other) (says curve) ≡ false → GoesFirst stm curve other
+  goes-first : (curve other : Curve) → goesBefore (told other) (told curve) ≡ false → GoesFirst stm curve other
   unfolding goesBefore judgedOf brakingOf levelOf
   goes-first curve other e =
       let rank = rankOf (intervalIn stm curve) in
@@ -276,33 +283,36 @@ module _ (stm : Stm) where
       ]
 
   -- a field of the shown curve
-  field-of : (field : Candidate → ℕ) (none : ℕ) (one : Curve) → says one ≡ shown stm → shown stm .judged .held ≡ true
-      → fourth stm field none ≡ field (says one)
+  field-of : (field : Candidate → ℕ) (none : ℕ) (one : Curve) → told one ≡ shown stm → shown stm .judged .held ≡ true
+      → fourth stm field none ≡ field (told one)
   field-of field none one is held = ap₂ (λ t c. cond t (field c) none) held (sym is)
 
   module _ (curve : Curve) (holds : Holds (stm .track .curves) curve) where
     first-told : (other : Curve) → Holds (stm .track .curves) other
         → (shown stm .judged .held ≡ true)
         × List·Memᴰ (shown stm) (map says (stm .track .curves))
-        × (goesBefore (says other) (shown stm) ≡ false)
-    unfolding judgedOf
+        × (goesBefore (told other) (shown stm) ≡ false)
     first-told other held =
-        rw candidates at
-        (shown-is-first (stm .track .curves) (judged stm) (says other) (rw candidates (Memᴰ·map says (held .place))) (held .held))
+        let first =
+        shown-is-first (stm .track .curves) (judged stm) (says other) (rw candidates (Memᴰ·map says (held .place)))
+        (held-said other ∙ held .held) in
+        rw (says-held other (held .held)) at (rw candidates at first)
 
     shows : Shows stm (inDA stm)
     unfolding judgedOf isOver brakingOf levelOf isInsufficient dropOf shownAs
     shows =
-        let told = first-told curve holds in
-        let (one, place, is) = Memᴰ·of-map says (stm .track .curves) (told .1) in
+        let (some-shown, among, _) = first-told curve holds in
+        let (one, place, said) = Memᴰ·of-map says (stm .track .curves) among in
+        let held = sym (held-said one) ∙ ap (λ c. c .judged .held) said ∙ some-shown in
+        let is = sym (says-held one held) ∙ said in
         record {
           curve = one;
-          holds = record { place = place; held = ap (λ c. c .judged .held) is ∙ told .0 };
-          first = λ other held. goes-first one other (ap (goesBefore (says other)) is ∙ first-told other held .2);
-          id = field-of (λ c. c .curve .id) 255 one is (told .0);
-          interval = field-of (λ c. numberOf (shownAs c)) 0 one is (told .0);
-          bar = field-of (λ c. barNumber (barOf (shownAs c))) 0 one is (told .0);
-          mode = field-of (modeOfShown stm) 0 one is (told .0);
+          holds = record { place = place; held = held };
+          first = λ other held. goes-first one other (ap (goesBefore (told other)) is ∙ first-told other held .2);
+          id = field-of (λ c. c .curve .id) 255 one is some-shown;
+          interval = field-of (λ c. shownNumber (shownAs c)) 0 one is some-shown;
+          bar = field-of (λ c. barNumber (barOf (shownAs c))) 0 one is some-shown;
+          mode = field-of (modeOfShown stm) 0 one is some-shown;
         }
 
 -- none is shown where none is held
@@ -313,7 +323,7 @@ none-shown stm none =
     (λ h.
     let among = subst (λ all. shown stm ∈ all) (candidates stm) (held-one (zipWith candidate (stm .track .curves) (judged stm)) h) in
     let (curve, place, is) = Memᴰ·of-map (says stm) (stm .track .curves) among in
-    none curve (record { place = place; held = ap (λ c. c .judged .held) is ∙ h }))
+    none curve (record { place = place; held = sym (held-said stm curve) ∙ ap (λ c. c .judged .held) is ∙ h }))
 
 shows-none : (stm : Stm) → shown stm .judged .held ≡ false → ShowsNone (inDA stm)
 shows-none stm e = record { id = rw e; interval = rw e; bar = rw e; mode = rw e }

@@ -5,8 +5,9 @@ use mathlib.Core.Bool.{Bool, true, false, cond, not, _&&_, _||_}
 use mathlib.Core.List.{List}
 use lib.Dec.{eqb}
 use Rattle.wire.specs.Numbers.{byteAt}
+use Rattle.wire.specs.Form.{operandsOf}
 use Rattle.rules.specs.Numbers.{codeOf, bitNumber, isState, isAccepted}
-use Rattle.rules.specs.Operands.{codeByte, operandsOf, readingOf}
+use Rattle.rules.specs.Operands.{codeByte, readingOf}
 use Rattle.rules.specs.Table.{stands, orderedAt, orderedBy, isReleasable, addedCauses}
 use Rattle.rules.specs.Checks.{isDrop}
 use Rattle.rules.specs.Releases.{serviceFails}

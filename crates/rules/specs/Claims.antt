@@ -51,8 +51,7 @@ CodesAreTheTable =
 -- refusals 1 to 4 have the numbers that the table of codes and lengths gives them
 abbrev pub FirstFourAreWire : Type 0
 FirstFourAreWire =
-    (form : Form) (n : ℕ) (stm : Stm) (command : List ℕ)
-    → refusalOf form ≡ some n → answerNumber (answerFor form stm command) ≡ n
+    (form : Form) (n : ℕ) (whole : Answer) → refusalOf form ≡ some n → answerNumber (answerFor form whole) ≡ n
 
 -- ---- places
 

@@ -4,12 +4,13 @@ use mathlib.Core.Bool.{Bool, true, false, cond}
 use mathlib.Core.List.{List, [], _∷_}
 use lib.Dec.{eqb}
 use lib.ListN.{drop, replicate}
+use Rattle.wire.specs.Codes.{longest}
 use Rattle.wire.specs.Numbers.{byteAt}
-use Rattle.wire.specs.Form.{reportLength}
+use Rattle.wire.specs.Form.{reportLength, operandsOf}
 use Rattle.pressure.specs.declared.Feed.{Feed}
 use Rattle.pressure.specs.Report.{freshFeedback}
 use Rattle.rules.specs.Numbers.{codeOf, stateOf}
-use Rattle.rules.specs.Operands.{codeByte, operandsOf, trainOf, readingOf, curveOf, sectionOf}
+use Rattle.rules.specs.Operands.{codeByte, trainOf, readingOf, curveOf, sectionOf}
 use Rattle.rules.specs.Places.{freshTrack, withCurves, withSections, withForty, givenCurve, endedCurve, givenSection, endedSection}
 use Rattle.rules.specs.Releases.{freshBrakes, brakesBy}
 use Rattle.rules.specs.Odometer.{withState, withTrack, withBrakes, reportedIn}
@@ -26,10 +27,6 @@ use Rattle.rules.specs.declared.Stm.{Stm}
 -- "A button counts as already pressed before the first report"
 unfoldable pub freshKept : Kept
 freshKept = record { speed = 0; loss = true; text = true; halka = true }
-
--- the bytes of the longest command, a start
-abbrev pub longest : ℕ
-longest = 24
 
 unfoldable pub freshLast : Last
 freshLast = record { bytes = replicate longest 0; report = replicate reportLength 0 }

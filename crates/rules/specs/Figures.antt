@@ -104,8 +104,8 @@ pub record Line : Type 0 where
 abbrev pub line : ℕ → List ℕ → Line
 line answer report = record { answer = answer; report = report }
 
-abbrev pub lineOf : Moment → Line
-lineOf m = line (answerNumber (m .answer)) (cond (isRefused (m .answer)) [] (m .area))
+abbrev pub lineAt : Moment → Line
+lineAt m = line (answerNumber (m .answer)) (cond (isRefused (m .answer)) [] (m .area))
 
 -- "Input 01 00000001 00 00A0 0190 02BC 01F4 1E 14 14 1E 0A 0F 32 017C 0D, then 02 00000002 01 twice, 02 00000003 03, 7F"
 abbrev pub exampleStream : List Sent
@@ -128,4 +128,4 @@ exampleLines =
     ∷ []
 
 abbrev pub ExampleHolds : Type 0
-ExampleHolds = map lineOf (moments freshStm exampleStream) ≡ exampleLines
+ExampleHolds = map lineAt (moments freshStm exampleStream) ≡ exampleLines

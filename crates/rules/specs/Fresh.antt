@@ -4,10 +4,11 @@ use Prim.Native.Nat.{ℕ}
 use mathlib.Core.Bool.{true, false, _&&_, _||_}
 use mathlib.Core.List.{List}
 use lib.Dec.{eqb}
+use Rattle.wire.specs.Form.{operandsOf}
 use Rattle.pressure.specs.Convert.{kPa}
 use Rattle.pressure.specs.declared.Phase.{Phase}
 use Rattle.rules.specs.Numbers.{isAccepted}
-use Rattle.rules.specs.Operands.{operandsOf, trainOf}
+use Rattle.rules.specs.Operands.{trainOf}
 use Rattle.rules.specs.Table.{stands}
 use Rattle.rules.specs.Runs.{Sent, answerTo, stateAfter, isOf}
 use Rattle.rules.specs.History.{firstOperand, isIn, isSupervised, curveAt, sectionAt}

@@ -4,9 +4,10 @@ use Prim.Native.Nat.{ℕ}
 use mathlib.Core.Bool.{Bool, true, false, cond, _&&_, _||_}
 use mathlib.Core.List.{List}
 use lib.Dec.{eqb}
+use Rattle.wire.specs.Form.{operandsOf}
 use Rattle.curve.specs.declared.Curve.{Curve}
 use Rattle.rules.specs.Numbers.{isAccepted}
-use Rattle.rules.specs.Operands.{operandsOf, curveOf, sectionOf}
+use Rattle.rules.specs.Operands.{curveOf, sectionOf}
 use Rattle.rules.specs.Runs.{Sent, answerTo, stateAfter, stateAtEnd, noneAccepted, isOf, freshens}
 use Rattle.rules.specs.History.{firstOperand, passesStop, curveAt, sectionAt}
 use Rattle.rules.specs.Ground.{EndsWith}

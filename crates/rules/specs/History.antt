@@ -11,13 +11,14 @@ use lib.IntN.{ℤ, pos, _*ℤ_}
 use lib.Signed.{leZ}
 use lib.ListN.{drop, getD}
 use Rattle.wire.specs.Numbers.{byteAt, number, signed}
+use Rattle.wire.specs.Form.{operandsOf}
 use Rattle.curve.specs.declared.Curve.{Curve}
 use Rattle.curve.specs.declared.Braking.{Braking}
 use Rattle.curve.specs.declared.Interval.{Interval}
 use Rattle.curve.specs.Lead.{leadsOf}
 use Rattle.curve.specs.Intervals.{intervalOf}
 use Rattle.rules.specs.Numbers.{isAccepted, isState}
-use Rattle.rules.specs.Operands.{operandsOf, twoAt, bitOf}
+use Rattle.rules.specs.Operands.{twoAt, bitOf}
 use Rattle.rules.specs.Places.{freeCurve, freeSection}
 use Rattle.rules.specs.Runs.{Sent, answerTo, stateAfter, isOf}
 use Rattle.rules.specs.declared.Code.{Code}

@@ -24,9 +24,6 @@ codeByte command = byteAt command 0
 abbrev pub numberOf : List ℕ → ℕ
 numberOf command = number 4 (drop 1 command)
 
-abbrev pub operandsOf : List ℕ → List ℕ
-operandsOf command = drop 5 command
-
 -- "operands of fixed width": one of 2 bytes, at its place
 abbrev pub twoAt : List ℕ → ℕ → ℕ
 twoAt s at = number 2 (drop at s)

@@ -7,7 +7,7 @@ use lib.ListN.{replicate}
 use Rattle.curve.specs.declared.Kind.{Kind}
 use Rattle.curve.specs.declared.Direction.{Direction}
 use Rattle.curve.specs.declared.Curve.{Curve}
-use Rattle.curve.specs.Places.{movedAll}
+use Rattle.curve.specs.Places.{places, movedAll}
 use Rattle.rules.specs.declared.Section.{Section}
 use Rattle.rules.specs.declared.Track.{Track}
 
@@ -39,10 +39,6 @@ freeCurve = record {
 
 abbrev pub freeSection : Section
 freeSection = record { held = false; id = 0; speed = 0; ending = false; ground = 0 }
-
--- "all 16 curves, or all 16 sections"
-abbrev pub places : ℕ
-places = 16
 
 -- no curve, no section, no 40
 unfoldable pub freshTrack : Track

@@ -3,8 +3,9 @@ use mathlib.Core.Path.{_≡_}
 use Prim.Native.Nat.{ℕ}
 use mathlib.Core.Bool.{Bool, true, false, _||_}
 use mathlib.Core.List.{List}
+use Rattle.wire.specs.Form.{operandsOf}
 use Rattle.rules.specs.Numbers.{isAccepted}
-use Rattle.rules.specs.Operands.{operandsOf, trainOf}
+use Rattle.rules.specs.Operands.{trainOf}
 use Rattle.rules.specs.Runs.{Sent, answerTo, stateAfter, stateAtEnd, noneAccepted, isOf}
 use Rattle.rules.specs.History.{speedOf, externalOf, buttonOf, isReport, collected}
 use Rattle.rules.specs.Units.{feedbackAfter}

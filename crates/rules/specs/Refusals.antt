@@ -3,15 +3,16 @@ use Prim.Native.Nat.{ℕ, _+_}
 use mathlib.Core.Bool.{Bool, true, cond, not, _&&_, _||_}
 use mathlib.Core.List.{List, [], _∷_}
 use lib.Dec.{eqb}
+use Rattle.wire.specs.Codes.{longest}
 use Rattle.wire.specs.Numbers.{byteAt}
 use Rattle.wire.specs.Bytes.{sameBytes}
 use Rattle.wire.specs.declared.form.Form.{Form}
-use Rattle.wire.specs.Form.{formOf}
+use Rattle.wire.specs.Form.{formOf, operandsOf}
 use Rattle.pressure.specs.Phases.{isSet}
 use Rattle.rules.specs.Numbers.{isCode, isState, codeOf, stateOf}
-use Rattle.rules.specs.Operands.{codeByte, numberOf, operandsOf, inRange}
+use Rattle.rules.specs.Operands.{codeByte, numberOf, inRange}
 use Rattle.rules.specs.Places.{holdsCurve, allCurvesHeld, holdsSection, standsSection, allSectionsHeld}
-use Rattle.rules.specs.Commands.{longest, padded}
+use Rattle.rules.specs.Commands.{padded}
 use Rattle.rules.specs.declared.Answer.{Answer}
 use Rattle.rules.specs.declared.Code.{Code}
 use Rattle.rules.specs.declared.State.{State}
@@ -100,14 +101,18 @@ rulesFor stm command code s =
     ∷ rule (findsNoPlace stm code s) Answer.AllHeld
     ∷ []
 
--- refusals 1 to 4 come first, by the table of codes and lengths
-abbrev pub answerFor : Form → Stm → List ℕ → Answer
-answerFor Form.WrongArea stm command = Answer.WrongArea
-answerFor Form.NoBytes stm command = Answer.NoBytes
-answerFor Form.NoCode stm command = Answer.NoCode
-answerFor Form.WrongLength stm command = Answer.WrongLength
-answerFor Form.Whole stm command = firstOf (rulesFor stm command (codeOf (codeByte command)) (operandsOf command))
+-- the answer to a command that passes 1 to 4
+abbrev pub wholeAnswer : Stm → List ℕ → Answer
+wholeAnswer stm command = firstOf (rulesFor stm command (codeOf (codeByte command)) (operandsOf command))
+
+-- refusals 1 to 4 come first, by the table of codes and lengths; a command that passes them has its own answer
+abbrev pub answerFor : Form → Answer → Answer
+answerFor Form.WrongArea whole = Answer.WrongArea
+answerFor Form.NoBytes whole = Answer.NoBytes
+answerFor Form.NoCode whole = Answer.NoCode
+answerFor Form.WrongLength whole = Answer.WrongLength
+answerFor Form.Whole whole = whole
 
 -- the answer to every command, with an area of so many bytes
 unfoldable pub answerOf : Stm → List ℕ → ℕ → Answer
-answerOf stm command area = answerFor (formOf command area) stm command
+answerOf stm command area = answerFor (formOf command area) (wholeAnswer stm command)

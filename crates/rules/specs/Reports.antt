@@ -6,7 +6,7 @@ use Rattle.wire.specs.Numbers.{highByte, lowByte}
 use Rattle.pressure.specs.declared.Measured.{Measured}
 use Rattle.curve.specs.declared.Judged.{Judged}
 use Rattle.curve.specs.Boundary.{isReached}
-use Rattle.curve.specs.Intervals.{numberOf}
+use Rattle.curve.specs.Intervals.{shownNumber}
 use Rattle.rules.specs.Numbers.{stateNumber, orderNumber, barNumber, modeNumber, bitNumber}
 use Rattle.rules.specs.Places.{anyOf}
 use Rattle.rules.specs.Speeds.{brakingOf, judgedNow, vmaxOf, permittedSpeed}
@@ -51,7 +51,7 @@ unfoldable pub shownFields : Bool → Bool → Candidate → List ℕ
 shownFields over insufficient shown =
     cond (shown .judged .held)
     (shown .curve .id
-    ∷ numberOf (shownAs shown)
+    ∷ shownNumber (shownAs shown)
     ∷ barNumber (barOf (shownAs shown))
     ∷ modeNumber (modeOf over insufficient (shownAs shown))
     ∷ [])

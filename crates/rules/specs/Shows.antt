@@ -8,6 +8,7 @@ use Rattle.curve.specs.declared.Interval.{Interval}
 use Rattle.curve.specs.declared.Shown.{Shown}
 use Rattle.curve.specs.declared.Judged.{Judged}
 use Rattle.curve.specs.Intervals.{rankOf, shownOf}
+use Rattle.curve.specs.Places.{noneJudged}
 use Rattle.rules.specs.Places.{freeCurve}
 use Rattle.rules.specs.declared.Bar.{Bar}
 use Rattle.rules.specs.declared.Mode.{Mode}
@@ -19,7 +20,7 @@ candidate curve judged = record { curve = curve; judged = judged }
 
 -- none
 abbrev pub noCandidate : Candidate
-noCandidate = candidate freeCurve (record { held = false; interval = Interval.A; permitted = 300; brakes = false })
+noCandidate = candidate freeCurve noneJudged
 
 -- "latest computed interval, then lowest permitted speed, then lowest id"
 abbrev pub isLower : ℕ → ℕ → Bool → Bool

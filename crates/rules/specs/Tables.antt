@@ -10,16 +10,17 @@ use lib.Signed.{leZ}
 use lib.ListN.{take, drop, replicate}
 use Rattle.wire.specs.Numbers.{number}
 use Rattle.wire.specs.Bytes.{sameBytes}
+use Rattle.wire.specs.Form.{operandsOf}
 use Rattle.pressure.specs.declared.Feed.{Feed}
 use Rattle.curve.specs.declared.Kind.{Kind}
 use Rattle.curve.specs.declared.Direction.{Direction}
 use Rattle.curve.specs.declared.Curve.{Curve}
 use Rattle.curve.specs.declared.Interval.{Interval}
 use Rattle.curve.specs.declared.Shown.{Shown}
-use Rattle.curve.specs.Intervals.{numberOf}
+use Rattle.curve.specs.Intervals.{shownNumber}
 use Rattle.rules.specs.Numbers.{answerNumber, codeNumber, codeOf, stateNumber, stateOf, orderNumber, barNumber}
 use Rattle.rules.specs.Numbers.{modeNumber, bitNumber}
-use Rattle.rules.specs.Operands.{operandsOf, readingOf}
+use Rattle.rules.specs.Operands.{readingOf}
 use Rattle.rules.specs.Places.{anyOf, allOf}
 use Rattle.rules.specs.Table.{causesFor, orderOf}
 use Rattle.rules.specs.Shows.{barOf, modeOf}
@@ -262,7 +263,7 @@ modesWhen over insufficient modes = areNumbered (λ shown. modeNumber (modeOf ov
 unfoldable pub intervalsTold : List Bool
 intervalsTold =
     -- "1 A, 2 Ab, 3 Bf, 4 B, 5 C, 6 D, 7 E, 8 F"
-    areNumbered numberOf shownIntervals (1 ∷ 2 ∷ 3 ∷ 4 ∷ 5 ∷ 6 ∷ 7 ∷ 8 ∷ [])
+    areNumbered shownNumber shownIntervals (1 ∷ 2 ∷ 3 ∷ 4 ∷ 5 ∷ 6 ∷ 7 ∷ 8 ∷ [])
     -- "Bars: A none, Bf light grey 1, others yellow 2"
     ∷ areNumbered (λ shown. barNumber (barOf shown)) shownIntervals (0 ∷ 2 ∷ 1 ∷ 2 ∷ 2 ∷ 2 ∷ 2 ∷ 2 ∷ [])
     -- "Modes: A 0, Bf 1, Ab and B 2, B past permitted 3, C 3, D 3 or 4 if drop is insufficient, E and F 4"

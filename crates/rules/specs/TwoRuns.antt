@@ -5,11 +5,12 @@ use mathlib.Core.Bool.{Bool, true, false, _||_}
 use mathlib.Core.List.{List, [], _∷_, map}
 use lib.ListN.{length, take, drop}
 use Rattle.wire.specs.Numbers.{byteAt}
+use Rattle.wire.specs.Form.{operandsOf}
 use Rattle.curve.specs.declared.Curve.{Curve}
 use Rattle.curve.specs.Intervals.{rankOf}
 use Rattle.curve.specs.Claims.{Stricter}
 use Rattle.rules.specs.Numbers.{answerNumber, isRefused}
-use Rattle.rules.specs.Operands.{codeByte, numberOf, operandsOf, twoAt, bitOf}
+use Rattle.rules.specs.Operands.{codeByte, numberOf, twoAt, bitOf}
 use Rattle.rules.specs.Places.{holdsCurve}
 use Rattle.rules.specs.Table.{stands}
 use Rattle.rules.specs.Runs.{Sent, Moment, moments, isOf}

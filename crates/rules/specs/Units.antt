@@ -7,6 +7,7 @@ use mathlib.Core.List.{List, [], _∷_}
 use lib.Dec.{eqb, leb, ltb}
 use lib.IntN.{ℤ}
 use lib.ListN.{length}
+use Rattle.wire.specs.Codes.{longest}
 use Rattle.wire.specs.Form.{reportLength}
 use Rattle.pressure.specs.declared.Measured.{Measured}
 use Rattle.pressure.specs.Exact.{SixteenBits}
@@ -16,9 +17,10 @@ use Rattle.pressure.specs.Claims.{Each, afterAll, Agrees}
 use Rattle.curve.specs.declared.Curve.{Curve}
 use Rattle.rules.specs.Numbers.{isState}
 use Rattle.rules.specs.Operands.{trainInRange, curveInRange, sectionInRange}
-use Rattle.rules.specs.Places.{places, allOf}
+use Rattle.curve.specs.Places.{places}
+use Rattle.rules.specs.Places.{allOf}
 use Rattle.rules.specs.Table.{anyStands, standsWith}
-use Rattle.rules.specs.Commands.{longest, freshStm}
+use Rattle.rules.specs.Commands.{freshStm}
 use Rattle.rules.specs.Runs.{Sent, stateAfter, stateAtEnd}
 use Rattle.rules.specs.declared.State.{State}
 use Rattle.rules.specs.declared.Order.{Order}

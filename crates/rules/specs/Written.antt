@@ -9,7 +9,7 @@ use Rattle.curve.specs.declared.Curve.{Curve}
 use Rattle.curve.specs.declared.Interval.{Interval}
 use Rattle.curve.specs.declared.Shown.{Shown}
 use Rattle.curve.specs.Boundary.{isReached}
-use Rattle.curve.specs.Intervals.{rankOf, shownOf, numberOf}
+use Rattle.curve.specs.Intervals.{rankOf, shownOf, shownNumber}
 use Rattle.curve.specs.Permitted.{permittedOf}
 use Rattle.rules.specs.Numbers.{isAccepted, barNumber, modeNumber, bitNumber}
 use Rattle.rules.specs.Operands.{bitOf}
@@ -123,7 +123,7 @@ pub record Shows (stm : Stm) (report : List ℕ) : Type 0 where
   pub holds : Holds (stm .track .curves) curve
   pub first : (other : Curve) → Holds (stm .track .curves) other → GoesFirst stm curve other
   pub id : idIn report ≡ curve .id
-  pub interval : shownIn report ≡ numberOf (shownAsIn stm curve)
+  pub interval : shownIn report ≡ shownNumber (shownAsIn stm curve)
   pub bar : barIn report ≡ barNumber (barOf (shownAsIn stm curve))
   pub mode : modeIn report ≡ modeNumber (modeOf (isPastPermitted stm curve) (isShort stm) (shownAsIn stm curve))
 

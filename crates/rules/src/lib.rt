@@ -75,17 +75,17 @@ pub struct Train {
 
 // A section, or a place that holds none. `ground` is the ground moved since its end was told.
 pub struct Section {
+    pub ground: u32,
+    pub speed: u16,
     pub held: bool,
     pub id: u8,
-    pub speed: u16,
     pub ending: bool,
-    pub ground: u32,
 }
 
 // What the track has told: curves, sections, and the 40 of an unexpected stop.
 pub struct Track {
-    pub curves: [curve::Curve; 16],
-    pub sections: [Section; 16],
+    pub curves: [curve::Curve; curve::PLACES],
+    pub sections: [Section; curve::PLACES],
     pub forty: bool,
 }
 
@@ -164,8 +164,8 @@ pub struct Kept {
 
 // The last accepted command, with 0 after its end, and the report that it was given.
 pub struct Last {
-    pub bytes: [u8; 24],
-    pub report: [u8; 14],
+    pub bytes: [u8; wire::LONGEST],
+    pub report: [u8; wire::REPORT_LENGTH],
 }
 
 // The unit's state.

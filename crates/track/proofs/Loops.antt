@@ -9,7 +9,8 @@ use native.Mathlib.Omega.{arith}
 use lib.ListN.{length, take, drop, set, getD, length-map, drop-of-length-le}
 use lib.Seq.{take-all, take-suc, drop-cons, append-snoc}
 use Rattle.laws.proofs.Lists.{copy-past, drop-step, map-step}
-use Rattle.rules.specs.Places.{anyOf, allOf, placed, places}
+use Rattle.curve.specs.Places.{places}
+use Rattle.rules.specs.Places.{anyOf, allOf, placed}
 
 -- every place is changed, one after the other
 module _ {A : Type 0} (f : A → A) (l : List A) where

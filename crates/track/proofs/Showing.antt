@@ -6,7 +6,7 @@ use lib.ListN.{length, drop, getD, drop-of-length-le}
 use Rattle.laws.proofs.Lists.{drop-step, length-zip, getD-zip}
 use Rattle.curve.specs.declared.Curve.{Curve}
 use Rattle.curve.specs.declared.Judged.{Judged}
-use Rattle.curve.proofs.Loops.{noCurve, noneJudged}
+use Rattle.curve.proofs.Loops.{noCurve, zeroJudged}
 use Rattle.rules.specs.declared.Candidate.{Candidate}
 use Rattle.rules.specs.Shows.{candidate, noCandidate, chosenOf, chosenFrom, chosen}
 
@@ -23,12 +23,12 @@ module _ (curves : List Curve) (judged : List Judged) where
   chosen-start = refl
 
   module _ (best : Candidate) (i : ℕ) (same : length curves ≡ length judged) where
-    pub chosen-step : {x : Candidate} → x ≡ chosenOf best (candidate (getD curves i noCurve) (getD judged i noneJudged))
+    pub chosen-step : {x : Candidate} → x ≡ chosenOf best (candidate (getD curves i noCurve) (getD judged i zeroJudged))
         → i < length curves → chosenAt x (i + 1) ≡ chosenAt best i
     unfolding chosenFrom
     chosen-step e h =
         let within : i < length candidates = rw (length-zip candidate curves judged same) h in
-        rw (e, drop-step candidates i (candidate noCurve noneJudged) within, getD-zip candidate curves judged i noCurve noneJudged same)
+        rw (e, drop-step candidates i (candidate noCurve zeroJudged) within, getD-zip candidate curves judged i noCurve zeroJudged same)
 
     pub chosen-end : length curves ≤ i → best ≡ chosenAt best i
     unfolding chosenFrom

@@ -7,7 +7,6 @@ use curve::Interval;
 use curve::Judged;
 use curve::PLACES;
 use curve::Shown;
-use curve::TOP;
 use rules::Bar;
 use rules::Candidate;
 use rules::Mode;
@@ -17,12 +16,7 @@ fn no_candidate() -> Candidate
 {
     Candidate {
         curve: free_curve(),
-        judged: Judged {
-            held: false,
-            interval: Interval::A,
-            permitted: TOP,
-            brakes: false,
-        },
+        judged: curve::none_judged(),
     }
 }
 

@@ -10,7 +10,7 @@ use Rattle.wire.specs.Bytes.{copied}
 use Rattle.wire.specs.declared.form.Form.{Form}
 use Rattle.wire.specs.Form.{reportLength, formOf}
 use Rattle.rules.specs.Numbers.{isAccepted, isAnswered, isRefused}
-use Rattle.rules.specs.Refusals.{answerFor, answerOf}
+use Rattle.rules.specs.Refusals.{wholeAnswer, answerFor, answerOf}
 use Rattle.rules.specs.Calls.{callOf, areaOf}
 use Rattle.rules.specs.declared.Stm.{Stm}
 use Rattle.rules.specs.declared.Outcome.{Outcome}
@@ -24,7 +24,7 @@ written bytes entry size e = rw size at e
 
 -- an answered call has an area of the report's length
 fits-form : (t : Bool) (form : Form) (stm : Stm) (command : List ℕ)
-    → isAnswered (answerFor (cond (not t) Form.WrongArea form) stm command) ≡ true → t ≡ true
+    → isAnswered (answerFor (cond (not t) Form.WrongArea form) (wholeAnswer stm command)) ≡ true → t ≡ true
 fits-form true form stm command e = refl
 fits-form false form stm command e = impossible e
 

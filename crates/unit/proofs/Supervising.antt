@@ -4,6 +4,7 @@ use mathlib.Core.Path.{_≡_, refl, sym, ap, ap₂, _∙_}
 use Prim.Native.Nat.{ℕ}
 use mathlib.Core.Bool.{Bool, true, false, cond}
 use mathlib.Core.List.{List, [], _∷_, zipWith}
+use Rattle.wire.specs.Codes.{longest}
 use Rattle.pressure.specs.declared.Measured.{Measured}
 use Rattle.pressure.specs.Report.{reportedTo}
 use Rattle.curve.specs.declared.Curve.{Curve}
@@ -14,14 +15,14 @@ use Rattle.curve.specs.Boundary.{targetOf, isAbove, lineFor, isReached, isReach
 use Rattle.curve.specs.Intervals.{intervalOf}
 use Rattle.curve.specs.Permitted.{permittedOf}
 use Rattle.curve.specs.Judging.{isFast, brakesAt, judgedOf, notedAt}
-use Rattle.curve.specs.Places.{judgedAll, notedAll}
+use Rattle.curve.specs.Places.{noneJudged, judgedHere, judgedAll, notedHere, notedAll}
 use Rattle.rules.specs.Places.{withCurves, movedTrack}
 use Rattle.rules.specs.Speeds.{judgedNow, vmaxOf}
 use Rattle.rules.specs.Checks.{isDrop}
 use Rattle.rules.specs.Releases.{isRolled, notedBrakes, addedBrakes, leftBrakes, releasedBrakes}
 use Rattle.rules.specs.Odometer.{withState, withBrakes, seenWith, seenOf, seenIn, moves, keptOf, measures, notedTrack, notes, adds, releases, isFresh, supervised}
 use Rattle.rules.specs.Reports.{reportOf}
-use Rattle.rules.specs.Commands.{longest, padded, withLast, remembered}
+use Rattle.rules.specs.Commands.{padded, withLast, remembered}
 use Rattle.rules.specs.declared.State.{State}
 use Rattle.rules.specs.declared.Train.{Train}
 use Rattle.rules.specs.declared.Track.{Track}
@@ -41,12 +42,20 @@ judged-noted : (braking : Braking) (v : ℕ) (curve : Curve) (interval : Interva
 unfolding judgedOf intervalOf permittedOf brakesAt isFast isReached isReachedF isReachedAtKmh lineFor isAbove targetOf
 judged-noted braking v curve interval = refl
 
+judged-here : (braking : Braking) (v : ℕ) (curve : Curve) (j : Judged)
+    → judgedHere braking v (notedHere curve j) ≡ judgedHere braking v curve
+judged-here braking v curve j = by (curve .held)
+  where
+    by : (t : Bool) → judgedHere braking v (cond t (notedAt curve (j .interval)) curve) ≡ judgedHere braking v curve
+    by true = ap (λ said. cond (curve .held) said noneJudged) (judged-noted braking v curve (j .interval))
+    by false = refl
+
 judged-all : (braking : Braking) (v : ℕ) (curves : List Curve)
     → judgedAll braking v (notedAll curves (judgedAll braking v curves)) ≡ judgedAll braking v curves
 unfolding zipWith
 judged-all braking v [] = refl
 judged-all braking v (curve ∷ curves) =
-    ap₂ _∷_ (judged-noted braking v curve (judgedOf braking v curve .interval)) (judged-all braking v curves)
+    ap₂ _∷_ (judged-here braking v curve (judgedHere braking v curve)) (judged-all braking v curves)
 
 judged-again : (train : Train) (kept : Kept) (curves : List Curve)
     → judgedNow train kept (notedAll curves (judgedNow train kept curves)) ≡ judgedNow train kept curves

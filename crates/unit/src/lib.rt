@@ -14,7 +14,7 @@ ghost use mathlib.Core.Path.{_≡_};
 ghost use mathlib.Core.Bool.{true, false, cond};
 ghost use lib.Dec.{eqb};
 ghost use lib.ListN.{length};
-ghost use Rattle.wire.specs.Form.{reportLength, operandsOf};
+ghost use Rattle.wire.specs.Form.{reportLength, operandPart};
 ghost use Rattle.rules.specs.Numbers.{isAccepted, isRefused};
 ghost use Rattle.rules.specs.Calls.{callOf, areaOf};
 use encoding::numbers::is_accepted;
@@ -24,7 +24,7 @@ use wire::REPORT_LENGTH;
 
 // The operand part of a command, a part of the caller's own bytes; empty at refusals 1 to 4.
 pub fn operands(command: &[u8], area: usize) -> &[u8]
-    ensures { λ r. ⌜ now r ≡ operandsOf (now (command .entry)) area ⌝ }
+    ensures { λ r. ⌜ now r ≡ operandPart (now (command .entry)) area ⌝ }
 {
     wire::operands(command, area)
 }

@@ -109,7 +109,7 @@ fn shown_fields(over: bool, insufficient: bool, shown: Candidate) -> Shown
         let interval = shown_as(shown);
         return Shown {
             id: curve.id,
-            interval: curve::number_of(interval),
+            interval: curve::shown_number(interval),
             bar: bar_number(bar_of(interval)),
             mode: mode_number(mode_of(over, insufficient, interval)),
         };

@@ -4,7 +4,6 @@ ghost use Rattle.rules.specs.Commands.{freshKept, freshLast, noTrain, freshWith
 use brakes::release::fresh_brakes;
 use curve::Times;
 use pressure::Feed;
-use refusals::LONGEST;
 use rules::Control;
 use rules::Kept;
 use rules::Last;
@@ -12,6 +11,7 @@ use rules::State;
 use rules::Stm;
 use rules::Train;
 use track::whole::fresh_track;
+use wire::LONGEST;
 use wire::REPORT_LENGTH;
 
 // A button counts as already pressed before the first report.

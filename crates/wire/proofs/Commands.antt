@@ -13,9 +13,9 @@ use Rattle.wire.specs.declared.codes.Length.{Length}
 use Rattle.wire.specs.declared.form.Form.{Form}
 use Rattle.wire.specs.declared.split.Next.{Next}
 use Rattle.wire.specs.Codes.{lengthOf}
-use Rattle.wire.specs.Form.{codeForm, formOf, refusalOf, reportLength}
+use Rattle.wire.specs.Form.{codeForm, formOf, codeRefusal, refusalTo, refusalOf, reportLength}
 use Rattle.wire.specs.Numbers.{byteAt}
-use Rattle.wire.specs.Split.{codeNext, nextOf, nextRefusal}
+use Rattle.wire.specs.Split.{codeNext, nextCommand, shortRefusal, restRefusal, nextRefusal}
 use Rattle.laws.proofs.Lists.{never, cond-first, cond-second}
 use Rattle.wire.proofs.Table.{lengths-within}
 
@@ -56,8 +56,8 @@ codeNext-command (Length.Bytes m) left {n} e =
     (ap Length.Bytes m-n, rw m-n at (ltb-false left m (p .0)))
 
 -- a command that is split off a stream has the whole form
-pub split-whole : (s : List ℕ) (n : ℕ) → nextOf s ≡ Next.Command n → (n ≤ length s) × (formOf (take n s) reportLength ≡ Form.Whole)
-unfolding nextOf
+pub split-whole : (s : List ℕ) (n : ℕ) → nextCommand s ≡ Next.Command n → (n ≤ length s) × (formOf (take n s) reportLength ≡ Form.Whole)
+unfolding nextCommand
 split-whole s n e =
     let p = cond-second (eqb (length s) 0) Next.End _ e (λ q. never (cc)) in
     let (l, h) = codeNext-command (lengthOf (byteAt s 0)) (length s) (p .1) in
@@ -65,14 +65,54 @@ split-whole s n e =
     (h, length-whole (take n s) (rw (getD-take n s 0 0 (omega arith), length-take-le n s h) l))
 
 -- and one of whole form is split off whatever follows it
-pub whole-split : (s rest : List ℕ) (area : ℕ) → formOf s area ≡ Form.Whole → nextOf (s ++ rest) ≡ Next.Command (length s)
-unfolding nextOf codeNext
+pub whole-split : (s rest : List ℕ) (area : ℕ) → formOf s area ≡ Form.Whole → nextCommand (s ++ rest) ≡ Next.Command (length s)
+unfolding nextCommand codeNext
 whole-split s rest area e =
     let h : 5 ≤ length s = whole-five s area e in
     let first : byteAt (s ++ rest) 0 ≡ byteAt s 0 = List·getD-append s rest 0 0 (omega arith) in
     let some-bytes = ne-eqb (length s + length rest) 0 (omega arith) in
     let enough = le-ltb (length s + length rest) (length s) (omega arith) in
     rw (length-append, first, whole-length s area e, some-bytes, enough)
+
+-- a case of `Form` has 01's number of the first refusal that applies
+code-number : (l : Length) (n : ℕ) → refusalOf (codeForm l n) ≡ codeRefusal l n
+unfolding codeForm codeRefusal refusalOf
+code-number Length.NoCode n = refl
+code-number (Length.Bytes m) n = by (eqb n m)
+  where
+    by : (t : Bool) → refusalOf (cond t Form.Whole Form.WrongLength) ≡ cond t none (some 4)
+    by true = refl
+    by false = refl
+
+form-by : (t u : Bool) (l : Length) (n : ℕ)
+    → refusalOf (cond t Form.WrongArea (cond u Form.NoBytes (codeForm l n))) ≡ cond t (some 1) (cond u (some 2) (codeRefusal l n))
+unfolding refusalOf
+form-by true u l n = refl
+form-by false true l n = refl
+form-by false false l n = code-number l n
+
+pub form-number : (s : List ℕ) (area : ℕ) → refusalOf (formOf s area) ≡ refusalTo s area
+unfolding formOf refusalTo
+form-number s area = form-by (not (eqb area reportLength)) (eqb (length s) 0) (lengthOf (byteAt s 0)) (length s)
+
+-- and so has a case of `Next`
+short-number : (l : Length) (n : ℕ) → nextRefusal (codeNext l n) ≡ shortRefusal l n
+unfolding codeNext shortRefusal nextRefusal
+short-number Length.NoCode n = refl
+short-number (Length.Bytes m) n = by (ltb n m)
+  where
+    by : (t : Bool) → nextRefusal (cond t Next.Short (Next.Command m)) ≡ cond t (some 4) none
+    by true = refl
+    by false = refl
+
+next-by : (t : Bool) (l : Length) (n : ℕ) → nextRefusal (cond t Next.End (codeNext l n)) ≡ cond t none (shortRefusal l n)
+unfolding nextRefusal
+next-by true l n = refl
+next-by false l n = short-number l n
+
+pub next-number : (s : List ℕ) → nextRefusal (nextCommand s) ≡ restRefusal s
+unfolding nextCommand restRefusal
+next-number s = next-by (eqb (length s) 0) (lengthOf (byteAt s 0)) (length s)
 
 code-refused : (l : Length) (n r : ℕ) → nextRefusal (codeNext l n) ≡ some r → refusalOf (codeForm l n) ≡ some r
 unfolding codeNext codeForm nextRefusal refusalOf
@@ -90,6 +130,6 @@ rest-by true l n r e = absurd (never (cc))
 rest-by false l n r e = code-refused l n r e
 
 -- a refusal of a stream is the refusal that the whole rest gets as a command
-pub rest-refused : (s : List ℕ) (r : ℕ) → nextRefusal (nextOf s) ≡ some r → refusalOf (formOf s reportLength) ≡ some r
-unfolding nextOf formOf
+pub rest-refused : (s : List ℕ) (r : ℕ) → nextRefusal (nextCommand s) ≡ some r → refusalOf (formOf s reportLength) ≡ some r
+unfolding nextCommand formOf
 rest-refused s r e = rest-by (eqb (length s) 0) (lengthOf (byteAt s 0)) (length s) r e

@@ -10,10 +10,14 @@ use Rattle.wire.specs.declared.codes.Length.{Length}
 abbrev pub row : ℕ → ℕ → Row
 row c n = record { code = c; length = n }
 
+-- the bytes of the longest command, a start
+abbrev pub longest : ℕ
+longest = 24
+
 -- 01, the table "Codes and whole lengths": its columns Code and Bytes, row by row
 unfoldable pub commands : List Row
 commands =
-    row 0x01 24 ∷
+    row 0x01 longest ∷
     row 0x02 6 ∷
     row 0x10 14 ∷
     row 0x20 12 ∷

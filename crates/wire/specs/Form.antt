@@ -26,6 +26,16 @@ formOf command area =
     cond (not (eqb area reportLength)) Form.WrongArea
     (cond (eqb (length command) 0) Form.NoBytes (codeForm (lengthOf (byteAt command 0)) (length command)))
 
+-- the same in 01's numbers: the first of refusals 1 to 4 that applies, and none where a command passes them
+unfoldable pub codeRefusal : Length → ℕ → Option ℕ
+codeRefusal Length.NoCode n = some 3
+codeRefusal (Length.Bytes m) n = cond (eqb n m) none (some 4)
+
+unfoldable pub refusalTo : List ℕ → ℕ → Option ℕ
+refusalTo command area =
+    cond (not (eqb area reportLength)) (some 1)
+    (cond (eqb (length command) 0) (some 2) (codeRefusal (lengthOf (byteAt command 0)) (length command)))
+
 -- 01's number of each case, in its list of refusals; `Whole` is none of the four
 unfoldable pub refusalOf : Form → Option ℕ
 refusalOf Form.WrongArea = some 1
@@ -34,14 +44,18 @@ refusalOf Form.NoCode = some 3
 refusalOf Form.WrongLength = some 4
 refusalOf Form.Whole = none
 
--- 01, "One code byte, a four-byte number, operands" and "an empty part at refusals 1–4"
-unfoldable pub operandPart : Form → List ℕ → List ℕ
-operandPart Form.WrongArea command = []
-operandPart Form.NoBytes command = []
-operandPart Form.NoCode command = []
-operandPart Form.WrongLength command = []
-operandPart Form.Whole command = drop 5 command
+-- 01, "One code byte, a four-byte number, operands"
+abbrev pub operandsOf : List ℕ → List ℕ
+operandsOf command = drop 5 command
+
+-- 01, "an empty part at refusals 1–4"
+unfoldable pub partFor : Form → List ℕ → List ℕ
+partFor Form.WrongArea command = []
+partFor Form.NoBytes command = []
+partFor Form.NoCode command = []
+partFor Form.WrongLength command = []
+partFor Form.Whole command = operandsOf command
 
 -- 01, "The host gets a command's operand bytes as a part of what it lent"
-unfoldable pub operandsOf : List ℕ → ℕ → List ℕ
-operandsOf command area = operandPart (formOf command area) command
+unfoldable pub operandPart : List ℕ → ℕ → List ℕ
+operandPart command area = partFor (formOf command area) command

@@ -17,8 +17,16 @@ codeNext Length.NoCode left = Next.NoCode
 codeNext (Length.Bytes n) left = cond (ltb left n) Next.Short (Next.Command n)
 
 -- 01, "refusal 3 or 4, or an empty rest, ends it"
-unfoldable pub nextOf : List ℕ → Next
-nextOf rest = cond (eqb (length rest) 0) Next.End (codeNext (lengthOf (byteAt rest 0)) (length rest))
+unfoldable pub nextCommand : List ℕ → Next
+nextCommand rest = cond (eqb (length rest) 0) Next.End (codeNext (lengthOf (byteAt rest 0)) (length rest))
+
+-- the same in 01's numbers: refusal 3 or 4 of a rest, and none where it is empty or has a command
+unfoldable pub shortRefusal : Length → ℕ → Option ℕ
+shortRefusal Length.NoCode left = some 3
+shortRefusal (Length.Bytes n) left = cond (ltb left n) (some 4) none
+
+unfoldable pub restRefusal : List ℕ → Option ℕ
+restRefusal rest = cond (eqb (length rest) 0) none (shortRefusal (lengthOf (byteAt rest 0)) (length rest))
 
 -- 01's number of each case, in its list of refusals; an empty rest and a command are none
 unfoldable pub nextRefusal : Next → Option ℕ

@@ -8,10 +8,16 @@ pub struct Row {
     pub length: usize,
 }
 
-pub const COMMANDS: [Row; 10] = [
+// How many codes there are.
+pub const CODES: usize = 10;
+
+// The bytes of the longest command, a start.
+pub const LONGEST: usize = 24;
+
+pub const COMMANDS: [Row; CODES] = [
     Row {
         code: 0x01,
-        length: 24,
+        length: LONGEST,
     },
     Row {
         code: 0x02,
@@ -62,7 +68,7 @@ pub fn length_of(code: u8) -> Length
 {
     let table = COMMANDS;
     let mut i = 0;
-    while i < 10 {
+    while i < CODES {
         let row = table[i];
         if row.code == code {
             return Length::Bytes(row.length);

@@ -1,6 +1,6 @@
 // Refusals 1 to 4 of 01, in their order, and the operands of a command that passes them.
 ghost use mathlib.Core.Path.{_≡_};
-ghost use Rattle.wire.specs.Form.{formOf, operandsOf};
+ghost use Rattle.wire.specs.Form.{formOf, refusalOf, refusalTo, operandPart};
 use crate::codes::Length;
 use crate::codes::length_of;
 
@@ -23,6 +23,7 @@ pub enum Form {
 // What a command is refused for where the report area has `area` bytes.
 pub fn form_of(command: &[u8], area: usize) -> Form
     ensures { λ r. ⌜ r ≡ formOf (now (command .entry)) area ⌝ }
+    ensures { λ r. ⌜ refusalOf r ≡ refusalTo (now (command .entry)) area ⌝ }
 {
     if area != REPORT_LENGTH {
         return Form::WrongArea;
@@ -44,7 +45,7 @@ pub fn form_of(command: &[u8], area: usize) -> Form
 
 // The part of the command after its code byte and its four-byte number, and an empty part at refusals 1 to 4.
 pub fn operands(command: &[u8], area: usize) -> &[u8]
-    ensures { λ r. ⌜ now r ≡ operandsOf (now (command .entry)) area ⌝ }
+    ensures { λ r. ⌜ now r ≡ operandPart (now (command .entry)) area ⌝ }
 {
     match form_of(command, area) {
         Form::WrongArea | Form::NoBytes | Form::NoCode | Form::WrongLength => &command[..0],

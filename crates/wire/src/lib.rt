@@ -10,7 +10,9 @@ mod split;
 
 pub use bytes::copy_whole;
 pub use bytes::same;
+pub use codes::CODES;
 pub use codes::COMMANDS;
+pub use codes::LONGEST;
 pub use codes::Length;
 pub use codes::Row;
 pub use codes::length_of;

@@ -1,6 +1,6 @@
 // The next command of a stream.
 ghost use mathlib.Core.Path.{_≡_};
-ghost use Rattle.wire.specs.Split.{nextOf};
+ghost use Rattle.wire.specs.Split.{nextCommand, nextRefusal, restRefusal};
 use crate::codes::Length;
 use crate::codes::length_of;
 
@@ -16,7 +16,8 @@ pub enum Next {
 }
 
 pub fn next_command(rest: &[u8]) -> Next
-    ensures { λ r. ⌜ r ≡ nextOf (now (rest .entry)) ⌝ }
+    ensures { λ r. ⌜ r ≡ nextCommand (now (rest .entry)) ⌝ }
+    ensures { λ r. ⌜ nextRefusal r ≡ restRefusal (now (rest .entry)) ⌝ }
 {
     if rest.len() == 0 {
         return Next::End;

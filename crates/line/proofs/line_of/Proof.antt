@@ -1,6 +1,9 @@
 -- `line::line_of` meets its contract.
-use Prim.Native.Nat.{_<_}
-use lib.ListN.{length}
+use Prim.Native.Nat.{_+_, _<_}
+use mathlib.Core.Path.{_≡_, sym, ap, _∙_}
+use native.Mathlib.Omega.{arith}
+use lib.ListN.{length, take, set, length-set}
+use lib.Seq.{length-take-le}
 use borrow.Author.Needs.{needs}
 use Rattle.line.specs.Lines.{lineOf, lineFeed}
 use Rattle.line.proofs.Text.{put-one}
@@ -35,7 +38,10 @@ returns c =
     let number = c .before .before .before .before in
     let room : end .result < length (end .last .0) = search needs in
     let last = put-one (end .last .0) (end .result) lineFeed room in
-    rw (last, end .ensures .1, number .put-number .ensures .1, number .before .answer-number .ensures)
+    let bytes = set (end .last .0) (end .result) lineFeed in
+    let text : take (end .result + 1) bytes ≡ lineOf (number .before .before .before .args .answer) (number .before .before .before .args .report) =
+    rw (last, end .ensures .1, number .put-number .ensures .1, number .before .answer-number .ensures) in
+    (text, sym (length-take-le (end .result + 1) bytes (simp length-set (omega (arith, room)))) ∙ ap length text)
 
 pub line-of-spec : {M : Type 1} → statement M
 line-of-spec =

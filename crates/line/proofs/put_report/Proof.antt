@@ -9,22 +9,23 @@ use denote.Ref.{now}
 use lib.ListN.{length, length-set, take, set, getD}
 use lib.Seq.{take-all}
 use borrow.Author.Needs.{needs}
-use Rattle.line.specs.Lines.{hexOf, space}
+use Rattle.wire.specs.Form.{reportLength}
+use Rattle.line.specs.Lines.{hexOf, space, reportWidth}
 use Rattle.line.proofs.Text.{put-one, put-hex}
 use Rattle.line.proofs.put_report.Statement.{statement}
 use Rattle.line.proofs.put_report.Tie as tie
 
 abbrev Inv-loop : tie.InvT-loop
 Inv-loop bytes₀ at report next₀ i₀ bytes next i =
-    (i ≤ 14)
-    × (length report ≡ 14)
+    (i ≤ reportLength)
+    × (length report ≡ reportLength)
     × (next ≡ next₀ + 2 * i)
     × (length bytes ≡ length bytes₀)
-    × (next₀ + 28 ≤ length bytes₀)
+    × (next₀ + 2 * reportLength ≤ length bytes₀)
     × (take next bytes ≡ take next₀ bytes₀ ++ hexOf (take i report))
 
 abbrev μ-loop : tie.MeasureT-loop
-μ-loop bytes₀ at report next₀ i₀ bytes next i = 14 - i
+μ-loop bytes₀ at report next₀ i₀ bytes next i = reportLength - i
 
 slice-write-bytes : tie.Need-slice-write-bytes Inv-loop μ-loop
 slice-write-bytes c = omega arith
@@ -88,7 +89,7 @@ returns c =
     let o = c .before in
     let v = o .loop .inv in
     let a = o .before .before .args in
-    let end : a .at + 29 ≡ o .loop .next = omega arith in
+    let end : a .at + reportWidth ≡ o .loop .next = omega arith in
     let all = take-all (o .loop .i) (a .t3) (omega arith) in
     let start = put-one (now (a .bytes)) (a .at) space (omega arith) in
     rw (end, v .5, all, start, append-assoc)

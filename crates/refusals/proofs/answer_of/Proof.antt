@@ -20,7 +20,7 @@ returns : tie.Need-returns
 returns c =
     let o = c .before .before in
     let a = o .before .before .before .args in
-    rw (c .by-form .ensures, c .before .form-of .ensures, o .judge .ensures, o .before .operands .ensures)
+    rw (c .by-form .ensures, c .before .form-of .ensures .0, o .judge .ensures, o .before .operands .ensures)
     (answer-by-form (a .stm) (now (a .command)) (a .area))
 
 pub answer-of-spec : {M : Type 1} → statement M

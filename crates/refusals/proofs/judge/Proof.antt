@@ -5,13 +5,14 @@ use mathlib.Core.Bool.{Bool, not, _&&_, _||_}
 use mathlib.Core.List.{List, [], _∷_}
 use denote.Ref.{now}
 use lib.Dec.{eqb}
+use Rattle.wire.specs.Codes.{longest}
 use Rattle.wire.specs.Numbers.{byteAt}
 use Rattle.wire.specs.Bytes.{sameBytes}
 use Rattle.pressure.specs.Phases.{isSet}
 use Rattle.rules.specs.Numbers.{codeOf, isCode, isState}
 use Rattle.rules.specs.Operands.{codeByte, numberOf, inRange}
 use Rattle.rules.specs.Places.{holdsCurve, allCurvesHeld, holdsSection, standsSection, allSectionsHeld}
-use Rattle.rules.specs.Commands.{longest, padded}
+use Rattle.rules.specs.Commands.{padded}
 use Rattle.rules.specs.Refusals.{isRepeat, isNext, isAllowed, ordersDA, endsNothing, findsNoPlace, rule, firstOf, rulesFor}
 use Rattle.rules.specs.declared.Answer.{Answer}
 use Rattle.rules.specs.declared.Code.{Code}

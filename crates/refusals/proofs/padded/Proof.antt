@@ -5,8 +5,9 @@ use mathlib.Core.List.{_++_}
 use native.Mathlib.Omega.{arith}
 use denote.Ref.{now}
 use lib.ListN.{take, drop, length, replicate}
+use Rattle.wire.specs.Codes.{longest}
 use Rattle.laws.proofs.Lists.{copy-past}
-use Rattle.rules.specs.Commands.{longest, padded}
+use Rattle.rules.specs.Commands.{padded}
 use Rattle.refusals.proofs.Padding.{padded-length, padded-step}
 use Rattle.refusals.proofs.padded.Statement.{statement}
 use Rattle.refusals.proofs.padded.Tie as tie

@@ -1,10 +1,23 @@
 -- `curve::intervals::interval_of` meets its contract.
+use mathlib.Core.Path.{_≡_, sym, _∙_}
+use mathlib.Core.Bool.{true, not}
+use borrow.Author.Tests.{not-true}
 use Rattle.curve.specs.Intervals.{intervalOf}
+use Rattle.curve.proofs.Stricter.{both, before-bf}
 use Rattle.curve.proofs.intervals.interval_of.Statement.{statement}
 use Rattle.curve.proofs.intervals.interval_of.Tie as tie
 
 reached-requires : tie.Need-reached-requires
 reached-requires c κs = tt
+
+bf-is-longest-requires : tie.Need-bf-is-longest-requires
+bf-is-longest-requires c κs = tt
+
+returns : tie.Need-returns
+returns c =
+    let o = c .before .before in
+    let (off, longest) = both _ _ (c .if1 .taken) in
+    sym (before-bf _ _ _ (sym (o .reached .ensures) ∙ not-true _ off) (sym (c .before .bf-is-longest .ensures) ∙ longest))
 
 reached-requires-2 : tie.Need-reached-requires-2
 reached-requires-2 c κs = tt
@@ -24,9 +37,9 @@ f-reached-requires c κs = tt
 last-reached-requires : tie.Need-last-reached-requires
 last-reached-requires c κs = tt
 
-returns : tie.Need-returns
+returns-2 : tie.Need-returns-2
 unfolding intervalOf
-returns c =
+returns-2 c =
     let o = c .before .before .before in
     rw (
       c .last-reached .ensures,
@@ -35,7 +48,7 @@ returns c =
       o .reached4 .ensures,
       o .before .reached3 .ensures,
       o .before .before .reached2 .ensures,
-      o .before .before .before .reached .ensures,
+      o .before .before .before .before .before .reached .ensures,
     )
 
 pub interval-of-spec : {M : Type 1} → statement M
@@ -43,10 +56,12 @@ interval-of-spec =
     tie.close
     (tie.spec
     reached-requires
+    bf-is-longest-requires
+    returns
     reached-requires-2
     reached-requires-3
     reached-requires-4
     reached-requires-5
     f-reached-requires
     last-reached-requires
-    returns)
+    returns-2)

@@ -5,17 +5,17 @@ use mathlib.Core.Bool.{_||_}
 use native.Mathlib.Omega.{arith}
 use lib.ListN.{length, drop}
 use borrow.Author.Needs.{needs}
-use Rattle.curve.specs.Places.{anyBrakes}
+use Rattle.curve.specs.Places.{places, anyBrakes}
 use Rattle.curve.proofs.Loops.{any-step, any-end}
 use Rattle.curve.proofs.places.any_brakes.Statement.{statement}
 use Rattle.curve.proofs.places.any_brakes.Tie as tie
 
 abbrev Inv-loop : tie.InvT-loop
 Inv-loop interval judged any₀ i₀ any i =
-    (i ≤ 16) × (length judged ≡ 16) × ((any || anyBrakes interval (drop i judged)) ≡ anyBrakes interval judged)
+    (i ≤ places) × (length judged ≡ places) × ((any || anyBrakes interval (drop i judged)) ≡ anyBrakes interval judged)
 
 abbrev μ-loop : tie.MeasureT-loop
-μ-loop interval judged any₀ i₀ any i = 16 - i
+μ-loop interval judged any₀ i₀ any i = places - i
 
 loop-holds : tie.Need-loop-holds Inv-loop μ-loop
 loop-holds c = (omega arith, search needs, refl)

@@ -1,30 +1,30 @@
 -- `curve::places::judge_all` meets its contract.
 use Prim.Native.Nat.{_≤_, _-_}
-use mathlib.Core.Bool.{false}
 use mathlib.Core.Path.{_≡_, refl, _∙_}
 use mathlib.Core.List.{List, _++_}
 use native.Mathlib.Omega.{arith}
 use lib.ListN.{length, take, drop, replicate, length-map}
 use borrow.Author.Needs.{needs}
 use Rattle.laws.proofs.Lists.{copy-past, map-step}
-use Rattle.curve.specs.Judging.{judgedOf}
-use Rattle.curve.specs.Places.{judgedAll}
-use Rattle.curve.specs.declared.Interval.the-variants.{A}
+use Rattle.curve.specs.Places.{places, judgedHere, judgedAll}
 use Rattle.curve.specs.declared.Judged.{Judged}
 use Rattle.curve.proofs.Loops.{noCurve}
 use Rattle.curve.proofs.places.judge_all.Statement.{statement}
 use Rattle.curve.proofs.places.judge_all.Tie as tie
 
 -- the array before the loop
-abbrev start : List Judged
-start = replicate 16 (record { held = false; interval = A; permitted = 300; brakes = false })
+abbrev start : Judged → List Judged
+start none = replicate places none
 
 abbrev Inv-loop : tie.InvT-loop
 Inv-loop braking v curves judged₀ i₀ judged i =
-    (i ≤ 16) × (length curves ≡ 16) × (length judged₀ ≡ 16) × (judged ≡ take i (judgedAll braking v curves) ++ drop i judged₀)
+    (i ≤ places) × (length curves ≡ places) × (length judged₀ ≡ places) × (judged ≡ take i (judgedAll braking v curves) ++ drop i judged₀)
 
 abbrev μ-loop : tie.MeasureT-loop
-μ-loop braking v curves judged₀ i₀ judged i = 16 - i
+μ-loop braking v curves judged₀ i₀ judged i = places - i
+
+none-judged-requires : tie.Need-none-judged-requires Inv-loop μ-loop
+none-judged-requires c κs = tt
 
 loop-holds : tie.Need-loop-holds Inv-loop μ-loop
 loop-holds c = (omega arith, search needs, refl, refl)
@@ -35,8 +35,8 @@ mul-curve c = omega arith
 array-copy-out-curve : tie.Need-array-copy-out-curve Inv-loop μ-loop
 array-copy-out-curve c = omega arith
 
-judge-requires : tie.Need-judge-requires Inv-loop μ-loop
-judge-requires c κs = tt
+judge-here-requires : tie.Need-judge-here-requires Inv-loop μ-loop
+judge-here-requires c κs = tt
 
 mul-judged : tie.Need-mul-judged Inv-loop μ-loop
 mul-judged c = omega arith
@@ -53,15 +53,15 @@ loop-less c = omega arith
 loop-again : tie.Need-loop-again Inv-loop μ-loop
 loop-again c =
     let o = c .before .before .before in
-    let a = o .before .args in
-    let step = map-step (judgedOf (a .braking) (a .v)) (a .t1) start (o .loop .i) noCurve (c .judge .ensures) (omega arith) (omega arith) in
+    let a = o .before .before .args in
+    let step = map-step (judgedHere (a .braking) (a .v)) (a .t1) (start (o .before .none-judged .result)) (o .loop .i) noCurve (c .judge-here .ensures) (omega arith) (omega arith) in
     (omega arith, o .loop .inv .1, o .loop .inv .2, rw (o .loop .inv .3) step)
 
 returns : tie.Need-returns Inv-loop μ-loop
 returns c =
     let o = c .before in
-    let a = o .before .args in
-    o .loop .inv .3 ∙ copy-past (judgedAll (a .braking) (a .v) (a .t1)) start (o .loop .i) (simp length-map (omega arith)) (omega arith)
+    let a = o .before .before .args in
+    o .loop .inv .3 ∙ copy-past (judgedAll (a .braking) (a .v) (a .t1)) (start (o .before .none-judged .result)) (o .loop .i) (simp length-map (omega arith)) (omega arith)
 
 pub judge-all-spec : {M : Type 1} → statement M
 judge-all-spec =
@@ -69,10 +69,11 @@ judge-all-spec =
     (tie.spec
     Inv-loop
     μ-loop
+    none-judged-requires
     loop-holds
     mul-curve
     array-copy-out-curve
-    judge-requires
+    judge-here-requires
     mul-judged
     array-set-from-judged
     add-i

@@ -4,17 +4,17 @@ use mathlib.Core.Path.{_≡_, _∙_}
 use native.Mathlib.Omega.{arith}
 use lib.ListN.{length, drop}
 use borrow.Author.Needs.{needs}
-use Rattle.curve.specs.Places.{leastPermitted}
+use Rattle.curve.specs.Places.{places, leastPermitted}
 use Rattle.curve.proofs.Loops.{least-start, least-step, least-end}
 use Rattle.curve.proofs.places.least_permitted.Statement.{statement}
 use Rattle.curve.proofs.places.least_permitted.Tie as tie
 
 abbrev Inv-loop : tie.InvT-loop
 Inv-loop judged least₀ i₀ least i =
-    (i ≤ 16) × (length judged ≡ 16) × (least ≤ 300) × (min least (leastPermitted (drop i judged)) ≡ leastPermitted judged)
+    (i ≤ places) × (length judged ≡ places) × (least ≤ 300) × (min least (leastPermitted (drop i judged)) ≡ leastPermitted judged)
 
 abbrev μ-loop : tie.MeasureT-loop
-μ-loop judged least₀ i₀ least i = 16 - i
+μ-loop judged least₀ i₀ least i = places - i
 
 loop-holds : tie.Need-loop-holds Inv-loop μ-loop
 loop-holds c = (omega arith, search needs, omega arith, least-start (c .args .t1))

@@ -6,17 +6,16 @@ use native.Mathlib.Omega.{arith}
 use lib.ListN.{length, take, drop, length-map}
 use borrow.Author.Needs.{needs}
 use Rattle.laws.proofs.Lists.{copy-past, map-step}
-use Rattle.curve.specs.Judging.{movedBy}
-use Rattle.curve.specs.Places.{movedAll}
+use Rattle.curve.specs.Places.{places, movedHere, movedAll}
 use Rattle.curve.proofs.Loops.{noCurve}
 use Rattle.curve.proofs.places.move_all.Statement.{statement}
 use Rattle.curve.proofs.places.move_all.Tie as tie
 
 abbrev Inv-loop : tie.InvT-loop
-Inv-loop moved curves next₀ i₀ next i = (i ≤ 16) × (length curves ≡ 16) × (next ≡ take i (movedAll moved curves) ++ drop i curves)
+Inv-loop moved curves next₀ i₀ next i = (i ≤ places) × (length curves ≡ places) × (next ≡ take i (movedAll moved curves) ++ drop i curves)
 
 abbrev μ-loop : tie.MeasureT-loop
-μ-loop moved curves next₀ i₀ next i = 16 - i
+μ-loop moved curves next₀ i₀ next i = places - i
 
 loop-holds : tie.Need-loop-holds Inv-loop μ-loop
 loop-holds c = (omega arith, search needs, refl)
@@ -27,8 +26,8 @@ mul-curve c = omega arith
 array-copy-out-curve : tie.Need-array-copy-out-curve Inv-loop μ-loop
 array-copy-out-curve c = omega arith
 
-moved-by-requires : tie.Need-moved-by-requires Inv-loop μ-loop
-moved-by-requires c κs = tt
+moved-here-requires : tie.Need-moved-here-requires Inv-loop μ-loop
+moved-here-requires c κs = tt
 
 mul-next : tie.Need-mul-next Inv-loop μ-loop
 mul-next c = omega arith
@@ -46,7 +45,7 @@ loop-again : tie.Need-loop-again Inv-loop μ-loop
 loop-again c =
     let o = c .before .before .before in
     let a = o .before .args in
-    let step = map-step (λ curve. movedBy curve (a .moved)) (a .t1) (a .t1) (o .loop .i) noCurve (c .moved-by .ensures) (omega arith) (omega arith) in
+    let step = map-step (movedHere (a .moved)) (a .t1) (a .t1) (o .loop .i) noCurve (c .moved-here .ensures) (omega arith) (omega arith) in
     (omega arith, o .loop .inv .1, rw (o .loop .inv .2) step)
 
 returns : tie.Need-returns Inv-loop μ-loop
@@ -64,7 +63,7 @@ move-all-spec =
     loop-holds
     mul-curve
     array-copy-out-curve
-    moved-by-requires
+    moved-here-requires
     mul-next
     array-set-from-next
     add-i

@@ -1,29 +1,21 @@
 -- `encoding::fields::gradient_of` meets its contract.
-use borrow.Author.Needs.{needs}
-use Prim.Native.Nat.{suc, _+_, _-_}
-use mathlib.Core.Path.{_≡_}
-use native.Mathlib.Omega.{arith}
-use borrow.Author.Tests.{lt-ltb, le-ltb}
-use Rattle.wire.specs.Numbers.{signed}
+use mathlib.Core.Path.{_∙_, ap}
+use mir.Syntax.{w8}
+use mir.ValLaws.{toZ-ofZ}
+use Rattle.rules.specs.Operands.{gradientFrom}
 use Rattle.encoding.proofs.fields.gradient_of.Statement.{statement}
 use Rattle.encoding.proofs.fields.gradient_of.Tie as tie
 
-sub-t6 : tie.Need-sub-t6
-sub-t6 c = search needs
+signed8-requires : tie.Need-signed8-requires
+signed8-requires c κs = tt
 
-add-t7 : tie.Need-add-t7
-add-t7 c = search needs
+gradient-from-requires : tie.Need-gradient-from-requires
+gradient-from-requires c κs = tt
 
 returns : tie.Need-returns
-unfolding signed
-returns c = rw (lt-ltb _ _ (c .if1 .taken))
-
-returns-2 : tie.Need-returns-2
-unfolding signed
-returns-2 c =
-    let b = c .before .args .byte in
-    let size : 255 - b + 1 ≡ suc (256 - suc b) = omega arith in
-    rw (le-ltb b 128 (c .if1 .left), lt-ltb b 256 (omega arith), size)
+returns c =
+    let s = c .before .signed8 in
+    c .gradient-from .ensures ∙ ap gradientFrom (toZ-ofZ w8 (s .result) (record { sfits = s .ok }) ∙ s .ensures)
 
 pub gradient-of-spec : {M : Type 1} → statement M
-gradient-of-spec = tie.close (tie.spec sub-t6 add-t7 returns returns-2)
+gradient-of-spec = tie.close (tie.spec signed8-requires gradient-from-requires returns)

@@ -4,7 +4,8 @@ use mathlib.Core.Path.{refl}
 use native.Mathlib.Omega.{arith}
 use borrow.Author.Needs.{needs}
 use borrow.Author.Tests.{not-true, not-false}
-use Rattle.rules.specs.Places.{places, freeSection}
+use Rattle.curve.specs.Places.{places}
+use Rattle.rules.specs.Places.{freeSection}
 use Rattle.track.proofs.Loops.{Passed, pass-step, pass-taken, pass-end}
 use Rattle.track.proofs.sections.place_section.Statement.{statement}
 use Rattle.track.proofs.sections.place_section.Tie as tie

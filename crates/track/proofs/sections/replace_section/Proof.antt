@@ -3,7 +3,8 @@ use Prim.Native.Nat.{_-_}
 use mathlib.Core.Path.{refl}
 use native.Mathlib.Omega.{arith}
 use borrow.Author.Needs.{needs}
-use Rattle.rules.specs.Places.{places, freeSection, replacedSection}
+use Rattle.curve.specs.Places.{places}
+use Rattle.rules.specs.Places.{freeSection, replacedSection}
 use Rattle.track.proofs.Loops.{Changed, change-step, change-end}
 use Rattle.track.proofs.sections.replace_section.Statement.{statement}
 use Rattle.track.proofs.sections.replace_section.Tie as tie

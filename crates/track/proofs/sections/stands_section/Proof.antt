@@ -4,7 +4,8 @@ use mathlib.Core.Path.{refl}
 use mathlib.Core.Bool.{not, _&&_}
 use native.Mathlib.Omega.{arith}
 use borrow.Author.Needs.{needs}
-use Rattle.rules.specs.Places.{places, freeSection, isSection}
+use Rattle.curve.specs.Places.{places}
+use Rattle.rules.specs.Places.{freeSection, isSection}
 use Rattle.track.proofs.Loops.{Any, any-step, any-end}
 use Rattle.track.proofs.sections.stands_section.Statement.{statement}
 use Rattle.track.proofs.sections.stands_section.Tie as tie

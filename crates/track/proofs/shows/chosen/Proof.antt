@@ -4,6 +4,7 @@ use mathlib.Core.Path.{_≡_, sym, _∙_}
 use native.Mathlib.Omega.{arith}
 use lib.ListN.{length}
 use borrow.Author.Needs.{needs}
+use Rattle.curve.specs.Places.{places}
 use Rattle.rules.specs.Shows.{chosen}
 use Rattle.track.proofs.Showing.{chosenAt, chosen-start, chosen-step, chosen-end}
 use Rattle.track.proofs.shows.chosen.Statement.{statement}
@@ -11,10 +12,10 @@ use Rattle.track.proofs.shows.chosen.Tie as tie
 
 abbrev Inv-loop : tie.InvT-loop
 Inv-loop curves judged best₀ i₀ best i =
-    (i ≤ 16) × (length curves ≡ 16) × (length judged ≡ 16) × (chosenAt curves judged best i ≡ chosen curves judged)
+    (i ≤ places) × (length curves ≡ places) × (length judged ≡ places) × (chosenAt curves judged best i ≡ chosen curves judged)
 
 abbrev μ-loop : tie.MeasureT-loop
-μ-loop curves judged best₀ i₀ best i = 16 - i
+μ-loop curves judged best₀ i₀ best i = places - i
 
 no-candidate-requires : tie.Need-no-candidate-requires Inv-loop μ-loop
 no-candidate-requires c κs = tt

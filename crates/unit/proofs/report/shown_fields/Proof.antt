@@ -6,8 +6,8 @@ use Rattle.unit.proofs.report.shown_fields.Tie as tie
 shown-as-requires : tie.Need-shown-as-requires
 shown-as-requires c κs = tt
 
-number-of-requires : tie.Need-number-of-requires
-number-of-requires c κs = tt
+shown-number-requires : tie.Need-shown-number-requires
+shown-number-requires c κs = tt
 
 bar-of-requires : tie.Need-bar-of-requires
 bar-of-requires c κs = tt
@@ -30,7 +30,7 @@ returns c =
       c .before .mode-of .ensures,
       c .before .before .bar-number .ensures,
       c .before .before .before .bar-of .ensures,
-      o .number-of .ensures,
+      o .shown-number .ensures,
       o .before .shown-as .ensures,
       o .before .before .if1 .taken,
     )
@@ -44,7 +44,7 @@ shown-fields-spec =
     tie.close
     (tie.spec
     shown-as-requires
-    number-of-requires
+    shown-number-requires
     bar-of-requires
     bar-number-requires
     mode-of-requires

@@ -3,22 +3,30 @@
 use native.Mathlib.Omega.{arith}
 use borrow.Author.Needs.{needs}
 use borrow.Author.Tests.{eq-eqb, ne-eqb}
-use mathlib.Core.Path.{_≡_, sym}
+use mathlib.Core.Path.{_≡_, sym, ap, _∙_}
+use Prim.Native.Nat.{ℕ}
+use mathlib.Core.List.{List}
 use denote.Ref.{now}
 use lib.ListN.{length}
-use Rattle.wire.specs.Form.{reportLength, formOf, codeForm}
+use Rattle.wire.specs.declared.form.Form.{Form}
+use Rattle.wire.specs.Form.{reportLength, formOf, codeForm, refusalOf, refusalTo}
+use Rattle.wire.proofs.Commands.{form-number}
 use Rattle.wire.proofs.form.form_of.Statement.{statement}
 use Rattle.wire.proofs.form.form_of.Tie as tie
+
+-- a case with its number
+told : (s : List ℕ) (area : ℕ) {r : Form} → r ≡ formOf s area → (r ≡ formOf s area) × (refusalOf r ≡ refusalTo s area)
+told s area e = (e, ap refusalOf e ∙ form-number s area)
 
 returns : tie.Need-returns
 unfolding formOf
 returns c =
     let other : c .before .before .args .area ≡ reportLength → ⊥ = c .if1 .taken in
-    simp (ne-eqb _ _ other)
+    told _ _ (simp (ne-eqb _ _ other))
 
 returns-2 : tie.Need-returns-2
 unfolding formOf
-returns-2 c = simp (eq-eqb _ _ (c .before .if1 .left), eq-eqb _ _ (c .if2 .taken))
+returns-2 c = told _ _ (simp (eq-eqb _ _ (c .before .if1 .left), eq-eqb _ _ (c .if2 .taken)))
 
 shared-slice-read-length-of : tie.Need-shared-slice-read-length-of
 shared-slice-read-length-of c = omega arith
@@ -42,18 +50,18 @@ passed c =
 
 returns-3 : tie.Need-returns-3
 unfolding codeForm
-returns-3 c = rw (passed (c .before .before), c .enum-told .given .1)
+returns-3 c = told _ _ (rw (passed (c .before .before), c .enum-told .given .1))
 
 returns-4 : tie.Need-returns-4
 unfolding codeForm
 returns-4 c =
     let o = c .before .before .before .before in
     let as-long : length (now (o .before .before .before .before .before .args .command)) ≡ c .before .before .n .given .0 .0 = c .if3 .taken in
-    rw (passed o, c .before .before .n .given .1, eq-eqb _ _ as-long)
+    told _ _ (rw (passed o, c .before .before .n .given .1, eq-eqb _ _ as-long))
 
 returns-5 : tie.Need-returns-5
 unfolding codeForm
-returns-5 c = rw (passed (c .before .before .before .before), c .before .before .n .given .1, ne-eqb _ _ (c .if3 .left))
+returns-5 c = told _ _ (rw (passed (c .before .before .before .before), c .before .before .n .given .1, ne-eqb _ _ (c .if3 .left)))
 
 pub form-of-spec : {M : Type 1} → statement M
 form-of-spec =

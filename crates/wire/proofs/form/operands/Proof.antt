@@ -11,15 +11,15 @@ use types.Run.{OneOf, miss}
 use lib.ListN.{length, drop, length-drop}
 use lib.Seq.{take-all}
 use Rattle.wire.specs.declared.form.Form.{Form}
-use Rattle.wire.specs.Form.{formOf, operandPart, operandsOf}
+use Rattle.wire.specs.Form.{formOf, partFor, operandPart}
 use Rattle.wire.proofs.form.Form.{the-type}
 use Rattle.wire.proofs.Commands.{whole-five}
 use Rattle.wire.proofs.form.operands.Statement.{statement}
 use Rattle.wire.proofs.form.operands.Tie as tie
 
 -- the arm of the four refusals
-refused : (f : Form) (s : List ℕ) → OneOf (0 ∷ 1 ∷ 2 ∷ 3 ∷ []) (tagOf the-type f) → operandPart f s ≡ []
-unfolding operandPart
+refused : (f : Form) (s : List ℕ) → OneOf (0 ∷ 1 ∷ 2 ∷ 3 ∷ []) (tagOf the-type f) → partFor f s ≡ []
+unfolding partFor
 refused Form.WrongArea s k = refl
 refused Form.NoBytes s k = refl
 refused Form.NoCode s k = refl
@@ -28,7 +28,7 @@ refused Form.Whole s k = absurd (miss (0 ∷ 1 ∷ 2 ∷ 3 ∷ []) 4 tt k)
 
 -- the other arm
 whole : (c : tie.After-enum-told) → let a = c .before .before .before .before .args in formOf (now (a .command)) (a .area) ≡ Form.Whole
-whole c = sym (c .before .before .form-of .ensures) ∙ c .enum-told .given .1
+whole c = sym (c .before .before .form-of .ensures .0) ∙ c .enum-told .given .1
 
 five : (c : tie.After-enum-told) → 5 ≤ length (now (c .before .before .before .before .args .command))
 five c = whole-five _ _ (whole c)
@@ -52,13 +52,13 @@ part-result-end : tie.Need-part-result-end
 part-result-end c = omega arith
 
 returns : tie.Need-returns
-unfolding operandsOf
+unfolding operandPart
 returns c =
     let o = c .before .before in
-    rw (sym (o .form-of .ensures)) (sym (refused (o .form-of .result) _ (c .before .match .keys1)))
+    rw (sym (o .form-of .ensures .0)) (sym (refused (o .form-of .result) _ (c .before .match .keys1)))
 
 returns-2 : tie.Need-returns-2
-unfolding operandsOf operandPart
+unfolding operandPart partFor
 returns-2 c =
     let a = c .before .before .before .before .before .args in
     rw (whole (c .before)) (take-all (length (now (a .command)) - 5) (drop 5 (now (a .command))) (simp length-drop (omega arith)))
