@@ -1,5 +1,5 @@
 -- What 0 and every converted pressure have and every change of the reference keeps, the reference has after any number of reports.
-use mathlib.Core.Path.{_≡_, refl, sym, subst}
+use mathlib.Core.Path.{_≡_, refl, sym, subst, _∙_}
 use mathlib.Core.List.{List, [], _∷_}
 use Prim.Native.Nat.{ℕ, _+_, _*_}
 use native.Mathlib.Omega.{arith}
@@ -11,8 +11,9 @@ use lib.Ieee.{Float, nan, inf, fin, binary32, up, down, add, sub, lt, le}
 use Rattle.pressure.specs.Convert.{kPa, halvedOf, isLow, convertedOf, pressureOf}
 use Rattle.pressure.specs.Reference.{isSinking, changedReference}
 use Rattle.pressure.specs.Phases.{referenceOf, isNormal, isFar, waitedOf, settledOf, setOf}
-use Rattle.pressure.specs.Report.{pressureAt, phaseAfter}
-use Rattle.pressure.specs.Claims.{phaseAfterAll, Each}
+use Rattle.pressure.specs.Report.{freshFeedback}
+use Rattle.pressure.specs.Claims.{afterAll, Each, pressureUnset}
+use Rattle.pressure.proofs.Agreeing.{pressureIn, phaseOn, phaseOnAll, run-fresh}
 use Rattle.pressure.proofs.Settling.{after-waiting, after-settling, after-set}
 use Rattle.pressure.specs.declared.Feed.{Feed}
 use Rattle.pressure.specs.declared.Phase.{Phase}
@@ -49,8 +50,8 @@ module _
     (raised : (r p : Float) → R r → P p → lt r p ≡ true → R (add binary32 r (halvedOf (pos 3))))
     (lowered : (r p : Float) → R r → P p → lt p r ≡ true → R (sub binary32 r (halvedOf (pos 1))))
   where
-    saves : (x : ℤ) → Reads x → R (pressureAt Waiting feed full x)
-    unfolding pressureAt pressureOf referenceOf
+    saves : (x : ℤ) → Reads x → R (pressureUnset feed full x)
+    unfolding pressureOf
     saves x ok = go (isLow (halvedOf x))
       where
         go : (b : Bool) → R (cond b (kPa 0) (convertedOf feed full (halvedOf x)))
@@ -69,19 +70,19 @@ module _
         go false false d t u = h
 
     changes : (r : Float) (n : ℕ) (x : ℤ) → Reads x → R r
-        → R (changedReference (record { pressure = pressureAt (Set r n) feed full x; reference = r }))
-    unfolding pressureAt pressureOf referenceOf
+        → R (changedReference (record { pressure = pressureIn (Set r n) feed full x; reference = r }))
+    unfolding pressureIn pressureOf referenceOf
     changes r n x ok h = go (isLow (halvedOf x))
       where
         go : (b : Bool) → R (changedReference (record { pressure = cond b r (convertedOf feed full (halvedOf x)); reference = r }))
         go true = subst R (sym (changed-level r)) h
         go false = changed r (convertedOf feed full (halvedOf x)) h (converted x ok)
 
-    waited : (x : ℤ) → Reads x → Carries R (waitedOf (pressureAt Waiting feed full x))
+    waited : (x : ℤ) → Reads x → Carries R (waitedOf (pressureUnset feed full x))
     unfolding waitedOf
-    waited x ok = go (isNormal (pressureAt Waiting feed full x))
+    waited x ok = go (isNormal (pressureUnset feed full x))
       where
-        go : (b : Bool) → Carries R (cond b (Settling (pressureAt Waiting feed full x) 0) Waiting)
+        go : (b : Bool) → Carries R (cond b (Settling (pressureUnset feed full x) 0) Waiting)
         go true = saves x ok
         go false = tt
 
@@ -93,28 +94,28 @@ module _
         go true = h
         go false = h
 
-    set : (r : Float) (n : ℕ) (x : ℤ) → Reads x → R r → Carries R (setOf r n (pressureAt (Set r n) feed full x))
+    set : (r : Float) (n : ℕ) (x : ℤ) → Reads x → R r → Carries R (setOf r n (pressureIn (Set r n) feed full x))
     unfolding setOf
     set r n x ok h = go (ltb (n + 1) 10)
       where
         go : (b : Bool)
-            → Carries R (cond b (Set r (n + 1)) (Set (changedReference (record { pressure = pressureAt (Set r n) feed full x; reference = r })) 0))
+            → Carries R (cond b (Set r (n + 1)) (Set (changedReference (record { pressure = pressureIn (Set r n) feed full x; reference = r })) 0))
         go true = h
         go false = changes r n x ok h
 
-    step : (phase : Phase) (x : ℤ) → Reads x → Carries R phase → Carries R (phaseAfter phase feed full x)
+    step : (phase : Phase) (x : ℤ) → Reads x → Carries R phase → Carries R (phaseOn phase feed full x)
     step Waiting x ok h = subst (Carries R) (sym (after-waiting feed full x)) (waited x ok)
-    step (Settling saved n) x ok h = subst (Carries R) (sym (after-settling feed full saved n x)) (go (isFar saved (pressureAt Waiting feed full x)))
+    step (Settling saved n) x ok h = subst (Carries R) (sym (after-settling feed full saved n x)) (go (isFar saved (pressureUnset feed full x)))
       where
-        go : (b : Bool) → Carries R (cond b (waitedOf (pressureAt Waiting feed full x)) (settledOf saved n))
+        go : (b : Bool) → Carries R (cond b (waitedOf (pressureUnset feed full x)) (settledOf saved n))
         go true = waited x ok
         go false = settled saved n h
     step (Set r n) x ok h = subst (Carries R) (sym (after-set feed full r n x)) (set r n x ok h)
 
-    steps : (phase : Phase) (xs : List ℤ) → Each Reads xs → Carries R phase → Carries R (phaseAfterAll phase feed full xs)
-    unfolding phaseAfterAll
+    steps : (phase : Phase) (xs : List ℤ) → Each Reads xs → Carries R phase → Carries R (phaseOnAll phase feed full xs)
+    unfolding phaseOnAll
     steps phase [] ok h = h
-    steps phase (x ∷ xs) ok h = steps (phaseAfter phase feed full x) xs (ok .1) (step phase x (ok .0) h)
+    steps phase (x ∷ xs) ok h = steps (phaseOn phase feed full x) xs (ok .1) (step phase x (ok .0) h)
 
-    pub kept : (xs : List ℤ) (r : Float) (n : ℕ) → Each Reads xs → phaseAfterAll Waiting feed full xs ≡ Set r n → R r
-    kept xs r n ok e = subst (Carries R) e (steps Waiting xs ok tt)
+    pub kept : (xs : List ℤ) (r : Float) (n : ℕ) → Each Reads xs → afterAll freshFeedback feed full xs .phase ≡ Set r n → R r
+    kept xs r n ok e = subst (Carries R) (sym (run-fresh feed full xs) ∙ e) (steps Waiting xs ok tt)

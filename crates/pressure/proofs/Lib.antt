@@ -1,6 +1,7 @@
 pub mod Rounding
 pub mod Halves
 pub mod Cylinder
+pub mod Agreeing
 pub mod Settling
 pub mod Drop
 pub mod Keeping

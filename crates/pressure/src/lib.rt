@@ -1,7 +1,8 @@
 // The brake feedback (01, "Brake feedback"; 000, 5.5), for this unit and for other makers' units.
 //
 // A report's P_EXT gives the pressure P_INT, moves the feedback's phase on, and with it the
-// reference P_REF. Every figure is in kPa, in f32.
+// reference P_REF. Every figure is in kPa, in f32. The caller keeps what a report returns, and hands
+// its phase and its record of pressures to the next one.
 mod convert;
 mod phases;
 mod reference;
@@ -9,7 +10,7 @@ mod reference;
 pub use reference::drop_of;
 ghost use mathlib.Core.Path.{_≡_};
 ghost use Rattle.pressure.specs.Phases.{isSet};
-ghost use Rattle.pressure.specs.Report.{reported};
+ghost use Rattle.pressure.specs.Report.{freshFeedback, reported};
 
 // Where the brake pressure is taken: in the brake pipe, or in a cylinder.
 pub enum Feed {
@@ -31,7 +32,7 @@ pub enum Phase {
     Set { reference: f32, reports: u8 },
 }
 
-// What a report makes of the feedback; `fault` is TRYCKGIVARFEL.
+// The feedback after a report; `fault` is TRYCKGIVARFEL.
 pub struct Measured {
     pub phase: Phase,
     pub pressures: Pressures,
@@ -39,10 +40,17 @@ pub struct Measured {
 }
 
 // The feedback before any report.
-pub fn fresh() -> Phase
-    ensures { λ r. ⌜ r ≡ Phase.Waiting ⌝ }
+pub fn fresh() -> Measured
+    ensures { λ r. ⌜ r ≡ freshFeedback ⌝ }
 {
-    Phase::Waiting
+    Measured {
+        phase: Phase::Waiting,
+        pressures: Pressures {
+            pressure: 0.0,
+            reference: 0.0,
+        },
+        fault: false,
+    }
 }
 
 // Whether there is a reference pressure.
@@ -62,21 +70,20 @@ pub fn has_reference(phase: Phase) -> bool
     }
 }
 
-// One report, with P_FULL in kPa (a cylinder's pressure at full service braking; on a pipe it is not
-// used) and P_EXT in half kPa.
-pub fn report(phase: Phase, feed: Feed, full: u16, external: i16) -> Measured
-    ensures { λ r. ⌜ r ≡ reported phase feed full external ⌝ }
+// One report, with the phase and the record that the last one left, P_FULL in kPa (a cylinder's
+// pressure at full service braking; on a pipe it is not used) and P_EXT in half kPa.
+pub fn report(phase: Phase, pressures: Pressures, feed: Feed, full: u16, external: i16) -> Measured
+    ensures { λ r. ⌜ r ≡ reported phase pressures feed full external ⌝ }
 {
     let reading = convert::halved(external);
-    let before = phases::reference_of(phase);
-    let pressure = convert::pressure_of(feed, full, reading, before);
+    let pressure = convert::pressure_of(feed, full, reading, pressures.reference);
     let next = phases::next(phase, pressure);
-    let after = phases::reference_of(next);
+    let reference = phases::reference_of(next);
     Measured {
         phase: next,
         pressures: Pressures {
             pressure,
-            reference: after,
+            reference,
         },
         fault: convert::sensor_fault(reading),
     }

@@ -8,24 +8,37 @@ mod text;
 use pressure::Feed;
 use pressure::Measured;
 use pressure::Phase;
+use pressure::Pressures;
 use text::put;
 use text::put_kpa;
 
 // The feedback after a record, and whether there was one.
 struct Outcome {
     read: bool,
-    phase: Phase,
+    feedback: Measured,
+}
+
+// A feedback with a reference whose tenth report comes next, the pressure being at the reference.
+fn tenth(reference: f32) -> Measured {
+    Measured {
+        phase: Phase::Set {
+            reference,
+            reports: 9,
+        },
+        pressures: Pressures {
+            pressure: reference,
+            reference,
+        },
+        fault: false,
+    }
 }
 
 // The feedback that a record's report finds.
-fn found(kind: u8, phase: Phase, reference: u16) -> Phase {
+fn found(kind: u8, feedback: Measured, reference: u16) -> Measured {
     match kind {
         0 => pressure::fresh(),
-        2 => Phase::Set {
-            reference: reference as f32 / 2.0,
-            reports: 9,
-        },
-        _ => phase,
+        2 => tenth(reference as f32 / 2.0),
+        _ => feedback,
     }
 }
 
@@ -75,38 +88,42 @@ fn put_measured(m: Measured) {
 }
 
 // Reads one record and prints its line.
-fn turn(phase: Phase) -> Outcome {
+fn turn(feedback: Measured) -> Outcome {
     let mut record = [0u8; 8];
     if io::read_full(0, &mut record) < 8 {
-        return Outcome { read: false, phase };
+        return Outcome {
+            read: false,
+            feedback,
+        };
     }
     let feed = feed_of(wire::byte_at(&record, 1));
     let full = wire::be16(&record, 2);
     let external = wire::signed16(wire::be16(&record, 4));
-    let before = found(wire::byte_at(&record, 0), phase, wire::be16(&record, 6));
-    let m = pressure::report(before, feed, full, external);
+    let before = found(wire::byte_at(&record, 0), feedback, wire::be16(&record, 6));
+    let phase = before.phase;
+    let pressures = before.pressures;
+    let after = pressure::report(phase, pressures, feed, full, external);
     put_feed(feed);
     io::print_decimal(1, full as u64);
     put(b" ");
     put_kpa(external as f32 / 2.0);
-    put_measured(m);
-    let after = m.phase;
+    put_measured(after);
     Outcome {
         read: true,
-        phase: after,
+        feedback: after,
     }
 }
 
 // A proved loop ends, and nothing says that the input does: so the turns are counted down.
 fn main() {
-    let mut phase = pressure::fresh();
+    let mut feedback = pressure::fresh();
     let mut turns = u32::MAX;
     while turns > 0 {
-        let t = turn(phase);
+        let t = turn(feedback);
         if !t.read {
             return;
         }
-        phase = t.phase;
+        feedback = t.feedback;
         turns -= 1;
     }
 }

@@ -4,7 +4,7 @@ use Prim.Native.Nat.{ℕ}
 use mathlib.Core.Bool.{Bool, true, false, cond, _&&_, _||_, false≢true}
 use mathlib.Core.List.{List}
 use Rattle.pressure.specs.declared.Measured.{Measured}
-use Rattle.pressure.specs.Report.{reported}
+use Rattle.pressure.specs.Report.{reportedTo}
 use Rattle.curve.specs.declared.Curve.{Curve}
 use Rattle.curve.specs.Places.{movedAll}
 use Rattle.wire.specs.Numbers.{byteAt}
@@ -96,7 +96,7 @@ module _ (r : Reading) (stm : Stm) where
   supervised-track = supervised-part (λ s. s .track) (λ _. refl) (λ _. refl)
 
   supervised-feedback :
-      supervised r stm .feedback ≡ reported (stm .feedback .phase) (stm .train .feed) (stm .train .pressure) (r .external)
+      supervised r stm .feedback ≡ reportedTo (stm .feedback) (stm .train .feed) (stm .train .pressure) (r .external)
   unfolding adds notes measures moves
   supervised-feedback = supervised-part (λ s. s .feedback) (λ _. refl) (λ _. refl)
 
@@ -129,7 +129,7 @@ module _ (r : Reading) (stm : Stm) where
   reported-track State.FA = refl
 
   pub reported-feedback : (state : State) → isState State.FA state ≡ false
-      → reportedIn state r stm .feedback ≡ reported (stm .feedback .phase) (stm .train .feed) (stm .train .pressure) (r .external)
+      → reportedIn state r stm .feedback ≡ reportedTo (stm .feedback) (stm .train .feed) (stm .train .pressure) (r .external)
   unfolding measures moves
   reported-feedback State.DE e = refl
   reported-feedback State.CS e = refl

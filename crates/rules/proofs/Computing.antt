@@ -9,7 +9,7 @@ use Rattle.pressure.specs.Convert.{halvedOf, isLow, isHigh, sensorFault, limite
 use Rattle.pressure.specs.Convert.{countedOf, cylinderOf, convertedOf, pressureOf}
 use Rattle.pressure.specs.Reference.{isSinking, changedReference, dropOf}
 use Rattle.pressure.specs.Phases.{referenceOf, isNormal, waitedOf, isFar, settledOf, setOf, nextOf}
-use Rattle.pressure.specs.Report.{pressureAt, phaseAfter, reported}
+use Rattle.pressure.specs.Report.{freshFeedback, pressureAt, phaseAfter, reported}
 use Rattle.curve.specs.Deceleration.{levelOf, decelerationOf}
 use Rattle.curve.specs.Lead.{leadsOf}
 use Rattle.curve.specs.Boundary.{targetOf, isAbove, leftSide, rightSide, line, lineFor, isReached, isReachedF, isReachedAtKmh}
@@ -33,7 +33,7 @@ use Rattle.rules.specs.Odometer.{notedTrack, notes, adds, releases, supe
 use Rattle.rules.specs.Shows.{goesBefore, chosenOf, chosenFrom, chosen, shownAs}
 use Rattle.rules.specs.Reports.{causesNumber, messagesOf, offeredOf, isOver, shownFields}
 use Rattle.rules.specs.Reports.{reportWith, reportInDA, reportOutside, reportOf}
-use Rattle.rules.specs.Commands.{freshFeedback, freshKept, freshLast, noTrain, freshWith}
+use Rattle.rules.specs.Commands.{freshKept, freshLast, noTrain, freshWith}
 use Rattle.rules.specs.Commands.{freshStm, stopped, padded, remembered, acceptedOf}
 use Rattle.rules.specs.Refusals.{isRepeat, isNext, endsNothing, findsNoPlace, rulesFor, answerOf}
 use Rattle.rules.specs.Calls.{callOf, areaOf}
@@ -45,7 +45,7 @@ unfolding ofInt add sub mul div lt le
     halvedOf isLow isHigh sensorFault limitedOf countedOf cylinderOf convertedOf pressureOf
     isSinking changedReference dropOf
     referenceOf isNormal waitedOf isFar settledOf setOf nextOf
-    pressureAt phaseAfter reported
+    freshFeedback pressureAt phaseAfter reported
 feedback-computes = tt
 
 -- the curves
@@ -77,7 +77,7 @@ unfolding feedback-computes curves-compute zipWith
     isInsufficient seenWith seenOf seenIn moves measures notedTrack notes adds releases supervised
     goesBefore chosenOf chosenFrom chosen shownAs
     causesNumber messagesOf offeredOf isOver shownFields reportWith reportInDA reportOutside reportOf
-    freshFeedback freshKept freshLast noTrain freshWith freshStm stopped padded remembered acceptedOf
+    freshKept freshLast noTrain freshWith freshStm stopped padded remembered acceptedOf
     isRepeat isNext endsNothing findsNoPlace rulesFor answerOf
     callOf areaOf
     moments stateAtEnd

@@ -9,6 +9,7 @@ use lib.ListN.{getD, replicate}
 use borrow.Author.Tests.{eqb-true, leb-true, ne-eqb}
 use Rattle.wire.specs.Numbers.{byteAt}
 use Rattle.wire.specs.Form.{operandsOf}
+use Rattle.pressure.specs.Report.{freshFeedback}
 use Rattle.rules.specs.Numbers.{isAccepted, isCode, isState, codeOf, stateOf}
 use Rattle.rules.specs.Operands.{codeByte, trainOf, readingOf, inRange}
 use Rattle.curve.specs.Places.{places}
@@ -16,7 +17,7 @@ use Rattle.rules.specs.Places.{freeCurve, freeSection, freshTrack}
 use Rattle.rules.specs.Table.{stands, noCauses}
 use Rattle.rules.specs.Releases.{freshBrakes, releasedBrakes}
 use Rattle.rules.specs.Odometer.{withState, withBrakes, seenIn, moves, measures, notes, adds, releases, isFresh, supervised, reportedIn}
-use Rattle.rules.specs.Commands.{freshFeedback, freshKept, freshWith, entered, stopped, carriedOut}
+use Rattle.rules.specs.Commands.{freshKept, freshWith, entered, stopped, carriedOut}
 use Rattle.rules.specs.Runs.{Sent, answerTo, stateAfter, isOf}
 use Rattle.rules.specs.History.{firstOperand, isIn, isSupervised, curveAt, sectionAt}
 use Rattle.rules.specs.Fresh.{HoldsNothing, IsFresh, StartIsFresh, EnteringCS, StateNamed, StateIsEntered, StateStays}

@@ -16,9 +16,9 @@ use lib.Ieee.Order.{round-mono}
 use Rattle.wire.specs.Numbers.{signed}
 use Rattle.pressure.specs.declared.Feed.{Feed}
 use Rattle.pressure.specs.declared.Phase.{Phase}
+use Rattle.pressure.specs.declared.Pressures.{Pressures}
 use Rattle.pressure.specs.Convert.{kPa, halvedOf, isLow, isHigh, sensorFault, limitedOf, countedOf, cylinderOf, convertedOf, pressureOf}
 use Rattle.pressure.specs.Exact.{SixteenBits}
-use Rattle.pressure.specs.Phases.{referenceOf}
 use Rattle.pressure.specs.Report.{pressureAt, phaseAfter, reported}
 use Rattle.rules.proofs.Tests.{cond-by}
 
@@ -120,27 +120,28 @@ module _ (h k : Float) (s : High h) (t : High k) where
   unfolding sensorFault
   fault-alike = rw (s .low, t .low, s .high, t .high)
 
-reported-alike : (phase : Phase) (feed : Feed) (full : ℕ) (x y : ℤ) → High (halvedOf x) → High (halvedOf y)
-    → reported phase feed full x ≡ reported phase feed full y
+reported-alike : (phase : Phase) (pressures : Pressures) (feed : Feed) (full : ℕ) (x y : ℤ) → High (halvedOf x) → High (halvedOf y)
+    → reported phase pressures feed full x ≡ reported phase pressures feed full y
 unfolding reported phaseAfter pressureAt
-reported-alike phase feed full x y h k =
-    rw (pressure-alike (halvedOf x) (halvedOf y) h k feed full (referenceOf phase), fault-alike (halvedOf x) (halvedOf y) h k)
+reported-alike phase pressures feed full x y h k =
+    rw (pressure-alike (halvedOf x) (halvedOf y) h k feed full (pressures .reference), fault-alike (halvedOf x) (halvedOf y) h k)
 
 -- ---- a reading of 16 bits that is reported as this one is
 
 pub record Alike (x : ℤ) : Type 0 where
   pub reading : ℤ
   pub width : SixteenBits reading
-  pub same : (phase : Phase) (feed : Feed) (full : ℕ) → reported phase feed full x ≡ reported phase feed full reading
+  pub same : (phase : Phase) (pressures : Pressures) (feed : Feed) (full : ℕ)
+      → reported phase pressures feed full x ≡ reported phase pressures feed full reading
 
 itself : (x : ℤ) → SixteenBits x → Alike x
-itself x h = record { reading = x; width = h; same = λ _ _ _. refl }
+itself x h = record { reading = x; width = h; same = λ _ _ _ _. refl }
 
 highest : (n : ℕ) → 2048 ≤ n → Alike (pos n)
 highest n h = record {
   reading = pos 32767;
   width = lit< tt;
-  same = λ phase feed full. reported-alike phase feed full (pos n) (pos 32767) (high-reading n h) (high-reading 32767 (lit≤ tt));
+  same = λ phase pressures feed full. reported-alike phase pressures feed full (pos n) (pos 32767) (high-reading n h) (high-reading 32767 (lit≤ tt));
 }
 
 not-negative : (n : ℕ) → Alike (pos n)

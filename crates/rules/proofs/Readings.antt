@@ -8,7 +8,8 @@ use borrow.Author.Tests.{not-true}
 use Rattle.wire.specs.Numbers.{byteAt}
 use Rattle.wire.specs.Form.{operandsOf}
 use Rattle.pressure.specs.declared.Measured.{Measured}
-use Rattle.pressure.specs.Report.{reported}
+use Rattle.pressure.specs.Report.{reportedTo}
+use Rattle.pressure.specs.Claims.{afterAll}
 use Rattle.rules.specs.Numbers.{isAccepted, isCode, isState, codeOf, stateOf}
 use Rattle.rules.specs.Operands.{codeByte, readingOf}
 use Rattle.rules.specs.Odometer.{keptOf, reportedIn}
@@ -53,7 +54,7 @@ module _ (stm : Stm) (x : Sent) (e : isAccepted (answerTo stm x) ≡ true) (c : 
 
   report-feedback :
       stateAfter stm x .feedback
-      ≡ reported (stm .feedback .phase) (stm .train .feed) (stm .train .pressure) (externalOf (x .command))
+      ≡ reportedTo (stm .feedback) (stm .train .feed) (stm .train .pressure) (externalOf (x .command))
   unfolding readingOf
   report-feedback =
       feedback-after stm x e
@@ -117,7 +118,7 @@ readings stm xs = collected (λ before. isReport) (λ before x. externalOf (x .c
 feedback-once : (stm : Stm) (x : Sent) (accepted report : Bool) → isAccepted (answerTo stm x) ≡ accepted
     → isReport (x .command) ≡ report → (accepted ≡ true → isOf Code.Start (x .command) ≡ false)
     → stateAfter stm x .feedback
-    ≡ cond (accepted && report) (reported (stm .feedback .phase) (stm .train .feed) (stm .train .pressure) (externalOf (x .command)))
+    ≡ cond (accepted && report) (reportedTo (stm .feedback) (stm .train .feed) (stm .train .pressure) (externalOf (x .command)))
     (stm .feedback)
 feedback-once stm x true true e c n = report-feedback stm x e c
 feedback-once stm x true false e c n =
@@ -133,15 +134,15 @@ train-once stm x false e n = ap (λ s. s .train) (after-other stm x e)
 
 -- one reading more, or none
 reading-more : (train : Train) (feedback : Measured) (t : Bool) (r : ℤ) (rs : List ℤ)
-    → feedbackAfter train (cond t (reported (feedback .phase) (train .feed) (train .pressure) r) feedback) rs
+    → feedbackAfter train (cond t (reportedTo feedback (train .feed) (train .pressure) r) feedback) rs
     ≡ feedbackAfter train feedback (cond t (r ∷ rs) rs)
-unfolding feedbackAfter
+unfolding afterAll
 reading-more train feedback true r rs = refl
 reading-more train feedback false r rs = refl
 
 over-reports : (stm : Stm) (xs : List Sent) → noneAccepted isStarting stm xs ≡ true
     → (stateAtEnd stm xs .feedback ≡ feedbackAfter (stm .train) (stm .feedback) (readings stm xs)) × (stateAtEnd stm xs .train ≡ stm .train)
-unfolding stateAtEnd collected feedbackAfter
+unfolding stateAtEnd collected afterAll
 over-reports stm [] n = (refl, refl)
 over-reports stm (x ∷ xs) n =
     let t = spared-first isStarting stm x xs n in

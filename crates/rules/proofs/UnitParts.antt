@@ -8,13 +8,14 @@ use Rattle.wire.specs.Form.{reportLength}
 use Rattle.pressure.specs.declared.Measured.{Measured}
 use Rattle.pressure.specs.declared.Phase.{Phase}
 use Rattle.pressure.specs.Phases.{isSet}
+use Rattle.pressure.specs.Report.{freshFeedback}
 use Rattle.rules.specs.Numbers.{isState}
 use Rattle.rules.specs.Operands.{trainInRange}
 use Rattle.rules.specs.Places.{anyOf}
 use Rattle.rules.specs.Table.{noCauses, anyStands}
 use Rattle.rules.specs.Releases.{freshBrakes}
 use Rattle.rules.specs.Odometer.{withTrack, withBrakes}
-use Rattle.rules.specs.Commands.{freshFeedback, freshKept, freshLast, freshWith, freshStm, noTrain}
+use Rattle.rules.specs.Commands.{freshKept, freshLast, freshWith, freshStm, noTrain}
 use Rattle.rules.specs.Units.{Reached, IsUnit, FreshIsUnit}
 use Rattle.rules.specs.declared.State.{State}
 use Rattle.rules.specs.declared.Train.{Train}

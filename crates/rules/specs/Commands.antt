@@ -8,9 +8,7 @@ use Rattle.wire.specs.Codes.{longest}
 use Rattle.wire.specs.Numbers.{byteAt}
 use Rattle.wire.specs.Form.{reportLength, operandsOf}
 use Rattle.pressure.specs.declared.Feed.{Feed}
-use Rattle.pressure.specs.declared.Phase.{Phase}
-use Rattle.pressure.specs.declared.Measured.{Measured}
-use Rattle.pressure.specs.Convert.{kPa}
+use Rattle.pressure.specs.Report.{freshFeedback}
 use Rattle.rules.specs.Numbers.{codeOf, stateOf}
 use Rattle.rules.specs.Operands.{codeByte, trainOf, readingOf, curveOf, sectionOf}
 use Rattle.rules.specs.Places.{freshTrack, withCurves, withSections, withForty, givenCurve, endedCurve, givenSection, endedSection}
@@ -25,14 +23,6 @@ use Rattle.rules.specs.declared.Last.{Last}
 use Rattle.rules.specs.declared.Stm.{Stm}
 
 -- ---- fresh
-
--- no reference, no fault
-unfoldable pub freshFeedback : Measured
-freshFeedback = record {
-  phase = Phase.Waiting;
-  pressures = record { pressure = kPa 0; reference = kPa 0 };
-  fault = false;
-}
 
 -- "A button counts as already pressed before the first report"
 unfoldable pub freshKept : Kept

@@ -7,7 +7,7 @@ use lib.Ieee.{lt}
 use Rattle.pressure.specs.declared.Measured.{Measured}
 use Rattle.pressure.specs.Convert.{kPa}
 use Rattle.pressure.specs.Reference.{dropOf}
-use Rattle.pressure.specs.Report.{reported}
+use Rattle.pressure.specs.Report.{reportedTo}
 use Rattle.curve.specs.declared.Judged.{Judged}
 use Rattle.curve.specs.declared.Interval.{Interval}
 use Rattle.curve.specs.Places.{notedAll, anyBrakes}
@@ -113,7 +113,7 @@ keptOf r = record { speed = r .speed; loss = r .loss; text = r .text; halka = r 
 
 unfoldable pub measures : Reading → Stm → Stm
 measures r stm =
-    withMeasured stm (reported (stm .feedback .phase) (stm .train .feed) (stm .train .pressure) (r .external)) (keptOf r)
+    withMeasured stm (reportedTo (stm .feedback) (stm .train .feed) (stm .train .pressure) (r .external)) (keptOf r)
 
 -- "A curve's past in B is noted at reports in DA"
 unfoldable pub notedTrack : Train → Kept → Track → Track

@@ -12,15 +12,15 @@ use Rattle.wire.specs.Form.{reportLength}
 use Rattle.pressure.specs.declared.Measured.{Measured}
 use Rattle.pressure.specs.Exact.{SixteenBits}
 use Rattle.pressure.specs.Phases.{isSet}
-use Rattle.pressure.specs.Report.{reported}
-use Rattle.pressure.specs.Claims.{Each}
+use Rattle.pressure.specs.Report.{freshFeedback}
+use Rattle.pressure.specs.Claims.{Each, afterAll, Agrees}
 use Rattle.curve.specs.declared.Curve.{Curve}
 use Rattle.rules.specs.Numbers.{isState}
 use Rattle.rules.specs.Operands.{trainInRange, curveInRange, sectionInRange}
 use Rattle.curve.specs.Places.{places}
 use Rattle.rules.specs.Places.{allOf}
 use Rattle.rules.specs.Table.{anyStands, standsWith}
-use Rattle.rules.specs.Commands.{freshFeedback, freshStm}
+use Rattle.rules.specs.Commands.{freshStm}
 use Rattle.rules.specs.Runs.{Sent, stateAfter, stateAtEnd}
 use Rattle.rules.specs.declared.State.{State}
 use Rattle.rules.specs.declared.Order.{Order}
@@ -67,10 +67,8 @@ isRollSound (Roll.Rolled ground) = leb ground 501
 -- ---- feedback
 
 -- the feedback after readings P_EXT
-unfoldable pub feedbackAfter : Train → Measured → List ℤ → Measured
-feedbackAfter train feedback [] = feedback
-feedbackAfter train feedback (x ∷ xs) =
-    feedbackAfter train (reported (feedback .phase) (train .feed) (train .pressure) x) xs
+abbrev pub feedbackAfter : Train → Measured → List ℤ → Measured
+feedbackAfter train feedback readings = afterAll feedback (train .feed) (train .pressure) readings
 
 -- some readings have led to it
 pub record Reached (train : Train) (feedback : Measured) : Type 0 where
@@ -120,3 +118,7 @@ CallKeepsUnit = (stm : Stm) (x : Sent) → IsUnit stm → IsUnit (stateAfter stm
 -- so that point 3 covers every state that a host can come to
 abbrev pub EveryRunIsUnit : Type 0
 EveryRunIsUnit = (xs : List Sent) → IsUnit (stateAtEnd freshStm xs)
+
+-- and in each of them the P_REF of the record and that of the phase are one
+abbrev pub UnitHasOneReference : Type 0
+UnitHasOneReference = (stm : Stm) → IsUnit stm → Agrees (stm .feedback)

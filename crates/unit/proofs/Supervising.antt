@@ -6,7 +6,7 @@ use mathlib.Core.Bool.{Bool, true, false, cond}
 use mathlib.Core.List.{List, [], _∷_, zipWith}
 use Rattle.wire.specs.Codes.{longest}
 use Rattle.pressure.specs.declared.Measured.{Measured}
-use Rattle.pressure.specs.Report.{reported}
+use Rattle.pressure.specs.Report.{reportedTo}
 use Rattle.curve.specs.declared.Curve.{Curve}
 use Rattle.curve.specs.declared.Braking.{Braking}
 use Rattle.curve.specs.declared.Interval.{Interval}
@@ -97,7 +97,7 @@ abbrev pub movedBy : Reading → Stm → Track
 movedBy r stm = movedTrack (stm .train .length) (r .moved) (stm .track)
 
 abbrev pub pressedBy : Reading → Stm → Measured
-pressedBy r stm = reported (stm .feedback .phase) (stm .train .feed) (stm .train .pressure) (r .external)
+pressedBy r stm = reportedTo (stm .feedback) (stm .train .feed) (stm .train .pressure) (r .external)
 
 abbrev pub judgedBy : Reading → Stm → List Judged
 judgedBy r stm = judgedNow (stm .train) (keptOf r) (movedBy r stm .curves)

@@ -2,7 +2,7 @@
 // and CS it only measures.
 ghost use mathlib.Core.Path.{_≡_};
 ghost use mathlib.Core.Bool.{false, cond};
-ghost use Rattle.pressure.specs.Report.{reported};
+ghost use Rattle.pressure.specs.Report.{reportedTo};
 ghost use Rattle.rules.specs.declared.State.{State};
 ghost use Rattle.rules.specs.Numbers.{isState};
 ghost use Rattle.rules.specs.Releases.{releasedBrakes};
@@ -48,11 +48,12 @@ fn kept_of(r: Reading) -> Kept
 
 // The feedback after a report.
 fn feedback_after(train: Train, before: Measured, r: Reading) -> Measured
-    ensures { λ x. ⌜ x ≡ reported (before .phase) (train .feed) (train .pressure) (r .external) ⌝ }
+    ensures { λ x. ⌜ x ≡ reportedTo before (train .feed) (train .pressure) (r .external) ⌝ }
 {
     let phase = before.phase;
+    let pressures = before.pressures;
     let feed = train.feed;
-    pressure::report(phase, feed, train.pressure, r.external)
+    pressure::report(phase, pressures, feed, train.pressure, r.external)
 }
 
 // Outside DA: measures, and keeps the figures and buttons.

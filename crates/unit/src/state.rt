@@ -1,11 +1,9 @@
 // The fresh state.
 ghost use mathlib.Core.Path.{_≡_};
-ghost use Rattle.rules.specs.Commands.{freshFeedback, freshKept, freshLast, noTrain, freshWith, freshStm};
+ghost use Rattle.rules.specs.Commands.{freshKept, freshLast, noTrain, freshWith, freshStm};
 use brakes::release::fresh_brakes;
 use curve::Times;
 use pressure::Feed;
-use pressure::Measured;
-use pressure::Pressures;
 use rules::Control;
 use rules::Kept;
 use rules::Last;
@@ -15,19 +13,6 @@ use rules::Train;
 use track::whole::fresh_track;
 use wire::LONGEST;
 use wire::REPORT_LENGTH;
-
-fn fresh_feedback() -> Measured
-    ensures { λ r. ⌜ r ≡ freshFeedback ⌝ }
-{
-    Measured {
-        phase: pressure::fresh(),
-        pressures: Pressures {
-            pressure: 0.0,
-            reference: 0.0,
-        },
-        fault: false,
-    }
-}
 
 // A button counts as already pressed before the first report.
 fn fresh_kept() -> Kept
@@ -86,7 +71,7 @@ pub fn fresh_with(started: bool, train: Train) -> Stm
         train,
         track: fresh_track(),
         brakes: fresh_brakes(),
-        feedback: fresh_feedback(),
+        feedback: pressure::fresh(),
         kept: fresh_kept(),
         last: fresh_last(),
     }

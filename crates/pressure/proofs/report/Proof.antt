@@ -9,17 +9,14 @@ use Rattle.pressure.proofs.report.Tie as tie
 halved-requires : tie.Need-halved-requires
 halved-requires c κs = search needs
 
-reference-of-requires : tie.Need-reference-of-requires
-reference-of-requires c κs = search needs
-
 pressure-of-requires : tie.Need-pressure-of-requires
 pressure-of-requires c κs = search needs
 
 next-requires : tie.Need-next-requires
 next-requires c κs = search needs
 
-reference-of-requires-2 : tie.Need-reference-of-requires-2
-reference-of-requires-2 c κs = search needs
+reference-of-requires : tie.Need-reference-of-requires
+reference-of-requires c κs = search needs
 
 sensor-fault-requires : tie.Need-sensor-fault-requires
 sensor-fault-requires c κs = search needs
@@ -27,14 +24,13 @@ sensor-fault-requires c κs = search needs
 returns : tie.Need-returns
 unfolding reported phaseAfter pressureAt
 returns c =
-    let start = c .before .before .before .before .before .before in
+    let start = c .before .before .before .before .before in
     rw (
       c .sensor-fault .ensures,
-      c .before .reference-of2 .ensures,
+      c .before .reference-of .ensures,
       c .before .before .next .ensures,
       c .before .before .before .pressure-of .ensures,
-      c .before .before .before .before .reference-of .ensures,
-      c .before .before .before .before .before .halved .ensures,
+      c .before .before .before .before .halved .ensures,
       toZ-ofZ w16 (start .args .external) (start .fits .external),
     )
 
@@ -43,9 +39,8 @@ report-spec =
     tie.close
     (tie.spec
     halved-requires
-    reference-of-requires
     pressure-of-requires
     next-requires
-    reference-of-requires-2
+    reference-of-requires
     sensor-fault-requires
     returns)

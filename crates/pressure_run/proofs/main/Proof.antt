@@ -4,10 +4,10 @@ use Rattle.pressure_run.proofs.main.Statement.{statement}
 use Rattle.pressure_run.proofs.main.Tie as tie
 
 abbrev Inv-loop : tie.InvT-loop
-Inv-loop phase₀ turns₀ phase turns = Unit {0}
+Inv-loop feedback₀ turns₀ feedback turns = Unit {0}
 
 abbrev μ-loop : tie.MeasureT-loop
-μ-loop phase₀ turns₀ phase turns = turns
+μ-loop feedback₀ turns₀ feedback turns = turns
 
 fresh-requires : tie.Need-fresh-requires Inv-loop μ-loop
 fresh-requires c κs = tt

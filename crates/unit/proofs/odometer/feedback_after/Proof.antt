@@ -12,8 +12,8 @@ report-requires c κs = tt
 returns : tie.Need-returns
 returns c =
     c .report .ensures
-    ∙ ap (reported _ _ _)
-    (toZ-ofZ w16 (c .before .before .args .r .external) (record { sfits = c .before .struct-told .given .1 .1 .1 .0 .1 }))
+    ∙ ap (reported _ _ _ _)
+    (toZ-ofZ w16 (c .before .before .before .args .r .external) (record { sfits = c .before .struct-told .given .1 .1 .1 .0 .1 }))
 
 pub feedback-after-spec : {M : Type 1} → statement M
 feedback-after-spec = tie.close (tie.spec report-requires returns)

@@ -9,8 +9,8 @@ fresh-track-requires c κs = tt
 fresh-brakes-requires : tie.Need-fresh-brakes-requires
 fresh-brakes-requires c κs = tt
 
-fresh-feedback-requires : tie.Need-fresh-feedback-requires
-fresh-feedback-requires c κs = tt
+fresh-requires : tie.Need-fresh-requires
+fresh-requires c κs = tt
 
 fresh-kept-requires : tie.Need-fresh-kept-requires
 fresh-kept-requires c κs = tt
@@ -25,7 +25,7 @@ returns c =
     rw (
       c .fresh-last .ensures,
       c .before .fresh-kept .ensures,
-      o .fresh-feedback .ensures,
+      o .fresh .ensures,
       o .before .fresh-brakes .ensures,
       o .before .before .fresh-track .ensures,
     )
@@ -36,7 +36,7 @@ fresh-with-spec =
     (tie.spec
     fresh-track-requires
     fresh-brakes-requires
-    fresh-feedback-requires
+    fresh-requires
     fresh-kept-requires
     fresh-last-requires
     returns)
