@@ -1,13 +1,13 @@
--- A place that holds a curve is moved, judged and noted as its curve is; what it holds stays. Assumes nothing.
+-- A place that holds a curve is moved and judged as its curve is, and one that holds none stays as it is. Assumes nothing.
 use Prim.Native.Nat.{ℕ}
-use mathlib.Core.Path.{_≡_, refl, _∙_, ap}
-use mathlib.Core.Bool.{Bool, true, false, cond, false≢true}
+use mathlib.Core.Path.{_≡_, refl, sym, _∙_, ap}
+use mathlib.Core.Bool.{Bool, true, false, cond, false≢true, or-false}
 use Rattle.curve.specs.Judging.{movedBy, judgedOf, notedAt}
-use Rattle.curve.specs.Places.{movedHere, noneJudged, judgedHere, notedHere, permittedHere, brakesFrom}
+use Rattle.curve.specs.Places.{movedHere, noneJudged, judgedHere, permittedHere, brakesFrom}
 use Rattle.curve.specs.declared.Curve.{Curve}
 use Rattle.curve.specs.declared.Braking.{Braking}
 use Rattle.curve.specs.declared.Interval.{Interval}
-use Rattle.curve.specs.declared.Judged.{Judged}
+use Rattle.curve.specs.declared.Interval.the-variants.{A}
 
 -- ---- where a curve is held
 
@@ -21,10 +21,34 @@ held-moved moved curve e = taken (curve .held) _ _ e
 pub held-judged : (braking : Braking) (v : ℕ) (curve : Curve) → curve .held ≡ true → judgedHere braking v curve ≡ judgedOf braking v curve
 held-judged braking v curve e = taken (curve .held) _ _ e
 
-pub held-noted : (braking : Braking) (v : ℕ) (curve : Curve) → curve .held ≡ true
-    → notedHere curve (judgedHere braking v curve) ≡ notedAt curve (judgedOf braking v curve .interval)
-held-noted braking v curve e =
-    taken (curve .held) _ _ e ∙ ap (λ j. notedAt curve (j .interval)) (held-judged braking v curve e)
+-- ---- where none is
+
+left : {A : Type 0} (t : Bool) (x y : A) → t ≡ false → cond t x y ≡ y
+left true x y e = absurd (false≢true (sym e))
+left false x y e = refl
+
+pub free-moved : (moved : ℕ) (curve : Curve) → curve .held ≡ false → movedHere moved curve ≡ curve
+free-moved moved curve e = left (curve .held) _ _ e
+
+-- A notes nothing
+noted-in-a : (curve : Curve) → notedAt curve A ≡ curve
+noted-in-a curve = ap (pastOf curve) (or-false (curve .past))
+  where
+    pastOf : Curve → Bool → Curve
+    pastOf curve past = record {
+      distance = curve .distance;
+      speed = curve .speed;
+      held = curve .held;
+      id = curve .id;
+      kind = curve .kind;
+      gradient = curve .gradient;
+      past = past;
+    }
+
+pub free-noted : (braking : Braking) (v : ℕ) (curve : Curve) → curve .held ≡ false
+    → notedAt curve (judgedHere braking v curve .interval) ≡ curve
+free-noted braking v curve e =
+    ap (λ j. notedAt curve (j .interval)) (left (curve .held) (judgedOf braking v curve) noneJudged e) ∙ noted-in-a curve
 
 -- ---- at every place
 
@@ -39,13 +63,6 @@ module _ (moved : ℕ) (curve : Curve) where
 
   pub moved-id : movedHere moved curve .id ≡ curve .id
   moved-id = kept (λ c. c .id) (curve .held) (movedBy curve moved) curve refl
-
-module _ (curve : Curve) (j : Judged) where
-  pub noted-held : notedHere curve j .held ≡ curve .held
-  noted-held = kept (λ c. c .held) (curve .held) (notedAt curve (j .interval)) curve refl
-
-  pub noted-id : notedHere curve j .id ≡ curve .id
-  noted-id = kept (λ c. c .id) (curve .held) (notedAt curve (j .interval)) curve refl
 
 pub judged-held : (braking : Braking) (v : ℕ) (curve : Curve) → judgedHere braking v curve .held ≡ curve .held
 unfolding judgedOf

@@ -32,12 +32,9 @@ judgedHere braking v curve = cond (curve .held) (judgedOf braking v curve) noneJ
 abbrev pub judgedAll : Braking → ℕ → List Curve → List Judged
 judgedAll braking v curves = map (judgedHere braking v) curves
 
--- the past in B of every curve held, noted in the interval that it was judged to be in
-abbrev pub notedHere : Curve → Judged → Curve
-notedHere curve j = cond (curve .held) (notedAt curve (j .interval)) curve
-
+-- every curve's past in B, noted in the interval that it was judged to be in; a place that holds none is judged A, which notes nothing
 abbrev pub notedAll : List Curve → List Judged → List Curve
-notedAll curves judged = zipWith notedHere curves judged
+notedAll curves judged = zipWith (λ curve j. notedAt curve (j .interval)) curves judged
 
 -- the permitted speed at a place; one that holds no curve permits 300
 abbrev pub permittedHere : Judged → ℕ

@@ -1,7 +1,7 @@
 // The sixteen places of curves: what is done to all of them, or asked of all.
 ghost use mathlib.Core.Path.{_≡_};
 ghost use Prim.Native.Nat.{min};
-ghost use Rattle.curve.specs.Places.{movedHere, movedAll, noneJudged, judgedHere, judgedAll, notedHere, notedAll, permittedHere, leastPermitted, brakesFrom, anyBrakes};
+ghost use Rattle.curve.specs.Places.{movedHere, movedAll, noneJudged, judgedHere, judgedAll, notedAll, permittedHere, leastPermitted, brakesFrom, anyBrakes};
 use crate::Braking;
 use crate::Curve;
 use crate::Interval;
@@ -74,19 +74,7 @@ pub fn judge_all(curves: [Curve; PLACES], braking: Braking, v: u16) -> [Judged; 
     judged
 }
 
-// A place with its curve's past in B noted; one that holds no curve stays as it is.
-fn noted_here(curve: Curve, j: Judged) -> Curve
-    ensures { λ r. ⌜ r ≡ notedHere curve j ⌝ }
-{
-    if curve.held {
-        let interval = j.interval;
-        noted(curve, interval)
-    } else {
-        curve
-    }
-}
-
-// Every curve with its past in B noted.
+// Every curve with its past in B noted; a place that holds none is judged A, which notes nothing.
 pub fn note_all(curves: [Curve; PLACES], judged: [Judged; PLACES]) -> [Curve; PLACES]
     ensures { λ r. ⌜ r ≡ notedAll curves judged ⌝ }
 {
@@ -94,7 +82,8 @@ pub fn note_all(curves: [Curve; PLACES], judged: [Judged; PLACES]) -> [Curve; PL
     for i in 0..PLACES {
         let curve = curves[i];
         let j = judged[i];
-        next[i] = noted_here(curve, j);
+        let interval = j.interval;
+        next[i] = noted(curve, interval);
     }
     next
 }

@@ -9,9 +9,11 @@ use Rattle.wire.specs.Numbers.{byteAt}
 use Rattle.wire.specs.Form.{operandsOf}
 use Rattle.curve.specs.declared.Curve.{Curve}
 use Rattle.curve.specs.Places.{movedHere, movedAll}
+use Rattle.curve.proofs.Held.{free-moved, free-noted}
 use Rattle.rules.specs.Numbers.{isAccepted, isCode, isState, codeOf, stateOf}
 use Rattle.rules.specs.Operands.{codeByte, readingOf}
 use Rattle.rules.specs.Places.{freeCurve, freeSection, endedCurve, endingSection, endedSection, movedSection, movedTrack}
+use Rattle.rules.specs.Speeds.{brakingOf}
 use Rattle.rules.specs.Odometer.{keptOf, notedTrack}
 use Rattle.rules.specs.Commands.{entered, stopped, carriedOut}
 use Rattle.rules.specs.Runs.{Sent, answerTo, stateAfter, stateAtEnd, noneAccepted, isOf, freshens}
@@ -30,18 +32,13 @@ use Rattle.rules.proofs.AtPlaces.{changed-any, others-stay}
 use Rattle.rules.proofs.After.{track-after, trackIn, reported-track, track-entered}
 use Rattle.rules.proofs.Ground.{notedPlace, noted-curves, spared-first}
 
--- a change of what is held leaves what is not
-left : {A : Type 0} (t : Bool) (x y : A) → t ≡ false → cond t x y ≡ y
-left true x y e = impossible (sym e)
-left false x y e = refl
-
 -- ---- a free place of curves, after one command
 
 module _ (stm : Stm) (place : ℕ) (free : curveAt place stm .held ≡ false) where
   moved-free : (moved : ℕ) → getD (movedAll moved (stm .track .curves)) place freeCurve ≡ curveAt place stm
   moved-free moved =
       changed-any (λ curve. curve .held) freeCurve refl (movedHere moved) refl (stm .track .curves) place
-      ∙ left (curveAt place stm .held) _ _ free
+      ∙ free-moved moved (curveAt place stm) free
 
   report-free : (state : State) (r : Reading) → getD (trackIn r stm state .curves) place freeCurve ≡ curveAt place stm
   unfolding movedTrack
@@ -54,7 +51,7 @@ module _ (stm : Stm) (place : ℕ) (free : curveAt place stm .held ≡ false) wh
       let noted = notedPlace (stm .train) (keptOf r) in
       rw (noted-curves (stm .train) (keptOf r) (movedTrack (stm .train .length) (r .moved) (stm .track)))
       (changed-any (λ curve. curve .held) freeCurve refl noted refl moved place
-      ∙ ap noted at ∙ left (curveAt place stm .held) _ _ free)
+      ∙ ap noted at ∙ free-noted (brakingOf (stm .train) (r .halka)) (r .speed) (curveAt place stm) free)
   report-free State.FA r = refl
 
   ended-free : (id : ℕ) → getD (endedCurve id (stm .track .curves)) place freeCurve ≡ curveAt place stm
@@ -87,7 +84,7 @@ module _ (stm : Stm) (place : ℕ) (free : sectionAt place stm .held ≡ false) 
   unfolding movedSection
   moved-unheld moved =
       changed-any (λ section. section .held) freeSection refl (movedSection (stm .train .length) moved) refl (stm .track .sections) place
-      ∙ left (sectionAt place stm .held && sectionAt place stm .ending) _ _ (rw free)
+      ∙ rw free
 
   report-unheld : (state : State) (r : Reading) → getD (trackIn r stm state .sections) place freeSection ≡ sectionAt place stm
   unfolding movedTrack notedTrack

@@ -10,8 +10,8 @@ use lib.ListN.{getD}
 use borrow.Author.Tests.{not-true, eqb-true, eq-eqb}
 use Rattle.curve.specs.declared.Curve.{Curve}
 use Rattle.curve.specs.Judging.{movedBy, judgedOf, notedAt}
-use Rattle.curve.specs.Places.{movedHere, movedAll, judgedHere, notedHere}
-use Rattle.curve.proofs.Held.{held-moved, held-noted}
+use Rattle.curve.specs.Places.{movedHere, movedAll, judgedHere}
+use Rattle.curve.proofs.Held.{held-moved, held-judged}
 use Rattle.wire.specs.Numbers.{byteAt}
 use Rattle.wire.specs.Form.{operandsOf}
 use Rattle.rules.specs.Numbers.{isAccepted, isCode, isState, codeOf, stateOf}
@@ -80,20 +80,21 @@ notedIn train kept curve = notedAt curve (judgedOf (brakingOf train (kept .halka
 
 -- and a place with what it holds
 abbrev pub notedPlace : Train → Kept → Curve → Curve
-notedPlace train kept curve = notedHere curve (judgedHere (brakingOf train (kept .halka)) (kept .speed) curve)
+notedPlace train kept curve = notedAt curve (judgedHere (brakingOf train (kept .halka)) (kept .speed) curve .interval)
 
 pub noted-curves : (train : Train) (kept : Kept) (track : Track)
     → notedTrack train kept track .curves ≡ map (notedPlace train kept) (track .curves)
 unfolding notedTrack judgedNow
 noted-curves train kept track =
-    zip-self notedHere (judgedHere (brakingOf train (kept .halka)) (kept .speed)) (track .curves)
+    zip-self (λ curve j. notedAt curve (j .interval)) (judgedHere (brakingOf train (kept .halka)) (kept .speed)) (track .curves)
 
 pub noted-at : (train : Train) (kept : Kept) (track : Track) (place : ℕ) → getD (track .curves) place freeCurve .held ≡ true
     → getD (notedTrack train kept track .curves) place freeCurve ≡ notedIn train kept (getD (track .curves) place freeCurve)
 noted-at train kept track place held =
+    let at = getD (track .curves) place freeCurve in
+    let said = held-judged (brakingOf train (kept .halka)) (kept .speed) at held in
     rw (noted-curves train kept track)
-    (changed-at (λ curve. curve .held) freeCurve refl (notedPlace train kept) (track .curves) place held
-    ∙ held-noted (brakingOf train (kept .halka)) (kept .speed) (getD (track .curves) place freeCurve) held)
+    (changed-at (λ curve. curve .held) freeCurve refl (notedPlace train kept) (track .curves) place held ∙ ap (λ j. notedAt at (j .interval)) said)
 
 module _ (stm : Stm) (place : ℕ) (held : curveAt place stm .held ≡ true) where
   pub moved-at : (moved : ℕ) → getD (movedAll moved (stm .track .curves)) place freeCurve ≡ movedBy (curveAt place stm) moved

@@ -9,7 +9,7 @@ use borrow.Author.Tests.{leb-true, leb-false, le-leb, lt-ltb}
 use Rattle.curve.specs.declared.Curve.{Curve}
 use Rattle.curve.specs.declared.Judged.{Judged}
 use Rattle.curve.specs.Judging.{movedBy, notedAt}
-use Rattle.curve.specs.Places.{movedAll, notedHere, notedAll}
+use Rattle.curve.specs.Places.{movedAll, notedAll}
 use Rattle.rules.specs.Operands.{speedInRange, curveInRange, sectionInRange}
 use Rattle.rules.specs.Places.{allOf, freeCurve, freeSection, freshTrack, isCurve, isSection, withPast, givenCurve, endedCurve, givenSection, endingSection, endedSection, movedSection, movedTrack}
 use Rattle.rules.specs.Units.{isCurveSound, isGroundSound, isSectionSound}
@@ -35,8 +35,8 @@ pub curves-noted : (curves : List Curve) → CurvesSound curves → (judge : Cur
     → CurvesSound (notedAll curves (map judge curves))
 unfolding curveInRange
 curves-noted curves s judge =
-    subst CurvesSound (sym (zip-self notedHere judge curves))
-    (changed-sound s (λ curve. curve .held) (λ curve. notedAt curve (judge curve .interval)) (λ _ _ e. (e, refl)) (λ _ e. e))
+    subst CurvesSound (sym (zip-self (λ curve j. notedAt curve (j .interval)) judge curves))
+    (map-sound s (λ curve. notedAt curve (judge curve .interval)) (λ _ e. (e, refl)) (λ _ e. e))
 
 pub curve-ended : (curves : List Curve) → CurvesSound curves → (id : ℕ) → CurvesSound (endedCurve id curves)
 unfolding endedCurve

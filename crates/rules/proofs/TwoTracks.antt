@@ -8,9 +8,10 @@ use lib.Dec.{eqb}
 use borrow.Author.Tests.{eq-eqb, eqb-true}
 use Rattle.curve.specs.declared.Curve.{Curve}
 use Rattle.curve.specs.declared.Braking.{Braking}
-use Rattle.curve.specs.Places.{movedHere, judgedHere, judgedAll, notedHere, notedAll}
+use Rattle.curve.specs.Judging.{notedAt}
+use Rattle.curve.specs.Places.{movedHere, judgedHere, judgedAll, notedAll}
 use Rattle.curve.specs.Claims.{Stricter}
-use Rattle.curve.proofs.Held.{held-moved, held-noted, moved-held, moved-id, noted-held, noted-id}
+use Rattle.curve.proofs.Held.{held-moved, moved-held, moved-id}
 use Rattle.rules.specs.Places.{isCurve, holdsCurve, movedSection, movedTrack}
 use Rattle.rules.specs.Speeds.{brakingOf, judgedNow}
 use Rattle.rules.specs.Odometer.{notedTrack}
@@ -144,7 +145,7 @@ tracks-moved length moved below = record {
 -- ---- past in B noted
 
 abbrev noted : Braking → ℕ → Curve → Curve
-noted braking v curve = notedHere curve (judgedHere braking v curve)
+noted braking v curve = notedAt curve (judgedHere braking v curve .interval)
 
 noted-is : (braking : Braking) (v : ℕ) (curves : List Curve)
     → notedAll curves (judgedAll braking v curves) ≡ map (noted braking v) curves
@@ -153,16 +154,12 @@ noted-is braking v [] = refl
 noted-is braking v (curve ∷ curves) = ap (noted braking v curve ∷_) (noted-is braking v curves)
 
 noted-keeps : (braking : Braking) (v : ℕ) → Keeps (noted braking v)
-noted-keeps braking v = record {
-  held = λ curve. noted-held curve (judgedHere braking v curve);
-  id = λ curve. noted-id curve (judgedHere braking v curve);
-}
+noted-keeps braking v = record { held = λ curve. refl; id = λ curve. refl }
 
 noted-stricter : (braking braking′ : Braking) (v v′ : ℕ) (curve curve′ : Curve) → curve .held ≡ true → curve′ .held ≡ true
     → Stricter curve curve′ → Stricter (noted braking v curve) (noted braking′ v′ curve′)
 noted-stricter braking braking′ v v′ curve curve′ held held′ stricter =
-    rw (held-noted braking v curve held, held-noted braking′ v′ curve′ held′)
-    (record { kind = stricter .kind; gradient = stricter .gradient; distance = stricter .distance; speed = stricter .speed })
+    record { kind = stricter .kind; gradient = stricter .gradient; distance = stricter .distance; speed = stricter .speed }
 
 pub tracks-noted : (train train′ : Train) (kept kept′ : Kept) {track track′ : Track} → TracksBelow track track′
     → TracksBelow (notedTrack train kept track) (notedTrack train′ kept′ track′)

@@ -75,11 +75,11 @@ pub struct Train {
 
 // A section, or a place that holds none. `ground` is the ground moved since its end was told.
 pub struct Section {
-    pub ground: u32,
-    pub speed: u16,
     pub held: bool,
     pub id: u8,
+    pub speed: u16,
     pub ending: bool,
+    pub ground: u32,
 }
 
 // What the track has told: curves, sections, and the 40 of an unexpected stop.

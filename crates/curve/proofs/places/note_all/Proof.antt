@@ -6,7 +6,8 @@ use native.Mathlib.Omega.{arith}
 use lib.ListN.{length, take, drop}
 use borrow.Author.Needs.{needs}
 use Rattle.laws.proofs.Lists.{copy-past, zip-step, length-zip}
-use Rattle.curve.specs.Places.{places, notedHere, notedAll}
+use Rattle.curve.specs.Judging.{notedAt}
+use Rattle.curve.specs.Places.{places, notedAll}
 use Rattle.curve.proofs.Loops.{noCurve, zeroJudged}
 use Rattle.curve.proofs.places.note_all.Statement.{statement}
 use Rattle.curve.proofs.places.note_all.Tie as tie
@@ -33,8 +34,8 @@ mul-j c = omega arith
 array-copy-out-j : tie.Need-array-copy-out-j Inv-loop μ-loop
 array-copy-out-j c = omega arith
 
-noted-here-requires : tie.Need-noted-here-requires Inv-loop μ-loop
-noted-here-requires c κs = tt
+noted-requires : tie.Need-noted-requires Inv-loop μ-loop
+noted-requires c κs = tt
 
 mul-next : tie.Need-mul-next Inv-loop μ-loop
 mul-next c = omega arith
@@ -52,14 +53,14 @@ loop-again : tie.Need-loop-again Inv-loop μ-loop
 loop-again c =
     let o = c .before .before .before .before in
     let a = o .before .args in
-    let step = zip-step notedHere (a .t1) (a .t2) (a .t1) (o .loop .i) noCurve zeroJudged (c .noted-here .ensures) (omega arith) (omega arith) (omega arith) in
+    let step = zip-step (λ curve j. notedAt curve (j .interval)) (a .t1) (a .t2) (a .t1) (o .loop .i) noCurve zeroJudged (c .noted .ensures) (omega arith) (omega arith) (omega arith) in
     (omega arith, o .loop .inv .1, o .loop .inv .2, rw (o .loop .inv .3) step)
 
 returns : tie.Need-returns Inv-loop μ-loop
 returns c =
     let o = c .before in
     let a = o .before .args in
-    let same = length-zip notedHere (a .t1) (a .t2) (omega arith) in
+    let same = length-zip (λ curve j. notedAt curve (j .interval)) (a .t1) (a .t2) (omega arith) in
     o .loop .inv .3 ∙ copy-past (notedAll (a .t1) (a .t2)) (a .t1) (o .loop .i) (rw same (omega arith)) (omega arith)
 
 pub note-all-spec : {M : Type 1} → statement M
@@ -73,7 +74,7 @@ note-all-spec =
     array-copy-out-curve
     mul-j
     array-copy-out-j
-    noted-here-requires
+    noted-requires
     mul-next
     array-set-from-next
     add-i
