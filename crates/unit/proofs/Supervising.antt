@@ -1,4 +1,5 @@
--- What an odometer report in DA leaves, where the curves are judged once: their pasts, noted since, change nothing that they say.
+-- What an odometer report in DA leaves once it has moved, where the curves are judged once: their pasts, noted since, change nothing
+-- that they say.
 -- Assumes nothing.
 use mathlib.Core.Path.{_≡_, refl, sym, ap, ap₂, _∙_}
 use Prim.Native.Nat.{ℕ}
@@ -15,12 +16,12 @@ use Rattle.curve.specs.Boundary.{targetOf, isAbove, lineFor, isReached, isReach
 use Rattle.curve.specs.Intervals.{intervalOf}
 use Rattle.curve.specs.Permitted.{permittedOf}
 use Rattle.curve.specs.Judging.{isFast, brakesAt, judgedOf, notedAt}
-use Rattle.curve.specs.Places.{noneJudged, judgedHere, judgedAll, notedHere, notedAll}
-use Rattle.rules.specs.Places.{withCurves, movedTrack}
+use Rattle.curve.specs.Places.{noneJudged, judgedHere, judgedAll, notedAll}
+use Rattle.rules.specs.Places.{withCurves}
 use Rattle.rules.specs.Speeds.{judgedNow, vmaxOf}
 use Rattle.rules.specs.Checks.{isDrop}
 use Rattle.rules.specs.Releases.{isRolled, notedBrakes, addedBrakes, leftBrakes, releasedBrakes}
-use Rattle.rules.specs.Odometer.{withState, withBrakes, seenWith, seenOf, seenIn, moves, keptOf, measures, notedTrack, notes, adds, releases, isFresh, supervised}
+use Rattle.rules.specs.Odometer.{withState, withBrakes, seenWith, seenOf, seenIn, keptOf, measures, notedTrack, notes, adds, releases, isFresh}
 use Rattle.rules.specs.Reports.{reportOf}
 use Rattle.rules.specs.Commands.{padded, withLast, remembered}
 use Rattle.rules.specs.declared.State.{State}
@@ -42,20 +43,16 @@ judged-noted : (braking : Braking) (v : ℕ) (curve : Curve) (interval : Interva
 unfolding judgedOf intervalOf permittedOf brakesAt isFast isReached isReachedF isReachedAtKmh lineFor isAbove targetOf
 judged-noted braking v curve interval = refl
 
-judged-here : (braking : Braking) (v : ℕ) (curve : Curve) (j : Judged)
-    → judgedHere braking v (notedHere curve j) ≡ judgedHere braking v curve
-judged-here braking v curve j = by (curve .held)
-  where
-    by : (t : Bool) → judgedHere braking v (cond t (notedAt curve (j .interval)) curve) ≡ judgedHere braking v curve
-    by true = ap (λ said. cond (curve .held) said noneJudged) (judged-noted braking v curve (j .interval))
-    by false = refl
+judged-here : (braking : Braking) (v : ℕ) (curve : Curve) (interval : Interval)
+    → judgedHere braking v (notedAt curve interval) ≡ judgedHere braking v curve
+judged-here braking v curve interval = ap (λ said. cond (curve .held) said noneJudged) (judged-noted braking v curve interval)
 
 judged-all : (braking : Braking) (v : ℕ) (curves : List Curve)
     → judgedAll braking v (notedAll curves (judgedAll braking v curves)) ≡ judgedAll braking v curves
 unfolding zipWith
 judged-all braking v [] = refl
 judged-all braking v (curve ∷ curves) =
-    ap₂ _∷_ (judged-here braking v curve (judgedHere braking v curve)) (judged-all braking v curves)
+    ap₂ _∷_ (judged-here braking v curve (judgedHere braking v curve .interval)) (judged-all braking v curves)
 
 judged-again : (train : Train) (kept : Kept) (curves : List Curve)
     → judgedNow train kept (notedAll curves (judgedNow train kept curves)) ≡ judgedNow train kept curves
@@ -93,17 +90,14 @@ left-since false s loss text b = refl
 
 -- ---- the report, step by step
 
-abbrev pub movedBy : Reading → Stm → Track
-movedBy r stm = movedTrack (stm .train .length) (r .moved) (stm .track)
-
 abbrev pub pressedBy : Reading → Stm → Measured
 pressedBy r stm = reportedTo (stm .feedback) (stm .train .feed) (stm .train .pressure) (r .external)
 
 abbrev pub judgedBy : Reading → Stm → List Judged
-judgedBy r stm = judgedNow (stm .train) (keptOf r) (movedBy r stm .curves)
+judgedBy r stm = judgedNow (stm .train) (keptOf r) (stm .track .curves)
 
 abbrev pub trackBy : Reading → Stm → Track
-trackBy r stm = withCurves (movedBy r stm) (notedAll (movedBy r stm .curves) (judgedBy r stm))
+trackBy r stm = withCurves (stm .track) (notedAll (stm .track .curves) (judgedBy r stm))
 
 abbrev pub notedBy : Reading → Stm → Brakes
 notedBy r stm = notedBrakes (stm .train) r (stm .brakes)
@@ -111,7 +105,7 @@ notedBy r stm = notedBrakes (stm .train) r (stm .brakes)
 -- what is seen, with this rolled ground
 abbrev pub seenBy : Reading → Stm → Roll → Seen
 seenBy r stm roll =
-    seenWith (judgedBy r stm) (vmaxOf (stm .train) (movedBy r stm)) (stm .train) (pressedBy r stm) (keptOf r) (notedBy r stm .since) roll
+    seenWith (judgedBy r stm) (vmaxOf (stm .train) (stm .track)) (stm .train) (pressedBy r stm) (keptOf r) (notedBy r stm .since) roll
 
 abbrev pub addedBy : Reading → Stm → Brakes
 addedBy r stm = addedBrakes (stm .train) (isDrop (pressedBy r stm)) (seenBy r stm (notedBy r stm .roll)) (notedBy r stm)
@@ -141,12 +135,12 @@ seen-by : (r : Reading) (stm : Stm) (state : State) (brakes : Brakes) → brakes
     → seenIn (stmBy r stm state brakes) ≡ seenBy r stm (brakes .roll)
 unfolding seenIn notedTrack
 seen-by r stm state brakes since =
-    rw since (seen-noted (stm .train) (movedBy r stm) (pressedBy r stm) (keptOf r) (notedBy r stm .since) (brakes .roll))
+    rw since (seen-noted (stm .train) (stm .track) (pressedBy r stm) (keptOf r) (notedBy r stm .since) (brakes .roll))
 
-adds-by : (r : Reading) (stm : Stm) → adds (notes r (measures r (moves r stm))) ≡ stmBy r stm (stm .control .state) (addedBy r stm)
-unfolding adds notes measures moves seenIn notedTrack
+adds-by : (r : Reading) (stm : Stm) → adds (notes r (measures r stm)) ≡ stmBy r stm (stm .control .state) (addedBy r stm)
+unfolding adds notes measures seenIn notedTrack
 adds-by r stm =
-    rw (seen-noted (stm .train) (movedBy r stm) (pressedBy r stm) (keptOf r) (notedBy r stm .since) (notedBy r stm .roll))
+    rw (seen-noted (stm .train) (stm .track) (pressedBy r stm) (keptOf r) (notedBy r stm .since) (notedBy r stm .roll))
 
 -- releases or leads to FA
 by-failed : (t : Bool) (stm : Stm) (brakes : Brakes)
@@ -165,8 +159,12 @@ releases-by r stm loss text =
     (by-failed (addedBy r stm .failed) (stmBy r stm (stm .control .state) (addedBy r stm))
     (releasedBrakes (seenBy r stm (notedBy r stm .roll)) loss text (addedBy r stm)))
 
-supervised-by : (r : Reading) (stm : Stm) → supervised r stm ≡ nextBy r stm
-unfolding supervised
+-- what comes once the train has moved
+abbrev pub supervisedOn : Reading → Stm → Stm
+supervisedOn r stm =
+    releases (isFresh (stm .kept .loss) (r .loss)) (isFresh (stm .kept .text) (r .text)) (adds (notes r (measures r stm)))
+
+supervised-by : (r : Reading) (stm : Stm) → supervisedOn r stm ≡ nextBy r stm
 supervised-by r stm = ap (releases _ _) (adds-by r stm) ∙ releases-by r stm _ _
 
 -- what is seen, with another rolled ground
@@ -196,7 +194,6 @@ seen-after r stm =
 -- ---- the same in steps, each by those before it
 
 pub record Steps (r : Reading) (stm : Stm) : Type 0 where
-  pub moved : Track
   pub measured : Measured
   pub kept : Kept
   pub judged : List Judged
@@ -211,11 +208,10 @@ pub record Steps (r : Reading) (stm : Stm) : Type 0 where
   pub state : State
   pub curves : List Curve
   pub track : Track
-  pub moved-is : moved ≡ movedBy r stm
   pub measured-is : measured ≡ pressedBy r stm
   pub kept-is : kept ≡ keptOf r
-  pub judged-is : judged ≡ judgedNow (stm .train) kept (moved .curves)
-  pub vmax-is : vmax ≡ vmaxOf (stm .train) moved
+  pub judged-is : judged ≡ judgedNow (stm .train) kept (stm .track .curves)
+  pub vmax-is : vmax ≡ vmaxOf (stm .train) (stm .track)
   pub noted-is : noted ≡ notedBy r stm
   pub seen-is : seen ≡ seenWith judged vmax (stm .train) measured kept (noted .since) (noted .roll)
   pub dropped-is : dropped ≡ isDrop measured
@@ -224,8 +220,8 @@ pub record Steps (r : Reading) (stm : Stm) : Type 0 where
   pub text-is : text ≡ isFresh (stm .kept .text) (r .text)
   pub left-is : left ≡ cond (added .failed) added (releasedBrakes seen loss text added)
   pub state-is : state ≡ cond (added .failed) State.FA (stm .control .state)
-  pub curves-is : curves ≡ notedAll (moved .curves) judged
-  pub track-is : track ≡ withCurves moved curves
+  pub curves-is : curves ≡ notedAll (stm .track .curves) judged
+  pub track-is : track ≡ withCurves (stm .track) curves
 
 abbrev pub lastOf : {r : Reading} {stm : Stm} → Steps r stm → Stm
 lastOf {r} {stm} s = record {
@@ -255,22 +251,21 @@ last-by s =
       s .judged-is,
       s .kept-is,
       s .measured-is,
-      s .moved-is,
     )
 
-pub last-is : {r : Reading} {stm : Stm} (s : Steps r stm) → lastOf s ≡ supervised r stm
+pub last-is : {r : Reading} {stm : Stm} (s : Steps r stm) → lastOf s ≡ supervisedOn r stm
 last-is {r} {stm} s = last-by s ∙ sym (supervised-by r stm)
 
 -- what the curves say, VMAX and what is seen, after it
 pub judged-last : {r : Reading} {stm : Stm} (s : Steps r stm) → s .judged ≡ judgedNow (stm .train) (s .kept) (s .track .curves)
 judged-last {r} {stm} s =
-    rw (s .track-is, s .curves-is, s .judged-is) (sym (judged-again (stm .train) (s .kept) (s .moved .curves)))
+    rw (s .track-is, s .curves-is, s .judged-is) (sym (judged-again (stm .train) (s .kept) (stm .track .curves)))
 
 pub vmax-last : {r : Reading} {stm : Stm} (s : Steps r stm) → s .vmax ≡ vmaxOf (stm .train) (s .track)
-vmax-last {r} {stm} s = rw (s .track-is, s .vmax-is) (sym (vmax-again (stm .train) (s .moved) (s .curves)))
+vmax-last {r} {stm} s = rw (s .track-is, s .vmax-is) (sym (vmax-again (stm .train) (stm .track) (s .curves)))
 
 seen-steps : {r : Reading} {stm : Stm} (s : Steps r stm) → s .seen ≡ seenBy r stm (notedBy r stm .roll)
-seen-steps s = rw (s .seen-is, s .noted-is, s .vmax-is, s .judged-is, s .kept-is, s .measured-is, s .moved-is)
+seen-steps s = rw (s .seen-is, s .noted-is, s .vmax-is, s .judged-is, s .kept-is, s .measured-is)
 
 pub seen-last : {r : Reading} {stm : Stm} (s : Steps r stm) → rolledIn (s .seen) (s .left .roll) ≡ seenIn (lastOf s)
 seen-last {r} {stm} s =

@@ -1,12 +1,12 @@
 // An odometer report: in DA it moves, measures, adds causes, then releases; in HS it moves and measures; in DE
 // and CS it only measures.
 ghost use mathlib.Core.Path.{_≡_};
-ghost use mathlib.Core.Bool.{false, cond};
+ghost use mathlib.Core.Bool.{false, cond, _||_};
 ghost use Rattle.pressure.specs.Report.{reportedTo};
 ghost use Rattle.rules.specs.declared.State.{State};
 ghost use Rattle.rules.specs.Numbers.{isState};
 ghost use Rattle.rules.specs.Releases.{releasedBrakes};
-ghost use Rattle.rules.specs.Odometer.{moves, keptOf, measures, isFresh, supervised, reportedIn};
+ghost use Rattle.rules.specs.Odometer.{moves, keptOf, measures, notes, adds, releases, isFresh, reportedIn};
 ghost use Rattle.rules.specs.Commands.{remembered};
 use crate::report::remember;
 use crate::report::report_outside;
@@ -17,6 +17,7 @@ use brakes::release::noted_brakes;
 use brakes::release::released_brakes;
 use brakes::seeing::rolled_in;
 use brakes::seeing::seen_with;
+use encoding::numbers::is_state;
 use pressure::Measured;
 use refusals::padded;
 use rules::Brakes;
@@ -34,6 +35,19 @@ use track::whole::vmax_of;
 use track::whole::with_curves;
 
 // ---- moves and measures
+
+// In HS and DA a report moves first.
+fn moved_in(state: State, r: Reading, stm: Stm) -> Stm
+    ensures { λ x. ⌜ x ≡ cond (isState State.HS state || isState State.DA state) (moves r stm) stm ⌝ }
+{
+    let mut next = stm;
+    if is_state(State::HS, state) | is_state(State::DA, state) {
+        let train = stm.train;
+        let track = stm.track;
+        next.track = moved_track(train.length, r.moved, track);
+    }
+    next
+}
 
 fn kept_of(r: Reading) -> Kept
     ensures { λ x. ⌜ x ≡ keptOf r ⌝ }
@@ -78,18 +92,6 @@ fn measure(command: &[u8], r: Reading, stm: Stm) -> Stm
     next
 }
 
-// The same in HS, where it moves first.
-fn move_and_measure(command: &[u8], r: Reading, stm: Stm) -> Stm
-    requires { ⌜ isState State.DA (stm .control .state) ≡ false ⌝ }
-    ensures { λ x. ⌜ x ≡ remembered (now (command .entry)) (measures r (moves r stm)) ⌝ }
-{
-    let mut next = stm;
-    let train = stm.train;
-    let track = stm.track;
-    next.track = moved_track(train.length, r.moved, track);
-    measure(command, r, next)
-}
-
 // ---- in DA
 
 fn is_fresh(before: bool, pressed: bool) -> bool
@@ -115,9 +117,9 @@ fn state_after(failed: bool, state: State) -> State
     if failed { State::FA } else { state }
 }
 
-// What the curves say is judged once, and serves causes, release and report.
+// What comes once the train has moved. What the curves say is judged once, and serves causes, release and report.
 fn supervise(command: &[u8], r: Reading, stm: Stm) -> Stm
-    ensures { λ x. ⌜ x ≡ remembered (now (command .entry)) (supervised r stm) ⌝ }
+    ensures { λ x. ⌜ x ≡ remembered (now (command .entry)) (releases (isFresh (stm .kept .loss) (r .loss)) (isFresh (stm .kept .text) (r .text)) (adds (notes r (measures r stm)))) ⌝ }
 {
     let mut next = stm;
     let control = stm.control;
@@ -127,12 +129,11 @@ fn supervise(command: &[u8], r: Reading, stm: Stm) -> Stm
     let brakes = stm.brakes;
     let feedback = stm.feedback;
     let before = stm.kept;
-    let moved = moved_track(train.length, r.moved, track);
     let measured = feedback_after(train, feedback, r);
     let kept = kept_of(r);
-    let curves = moved.curves;
+    let curves = track.curves;
     let judged = judge_now(train, kept, curves);
-    let vmax = vmax_of(train, moved);
+    let vmax = vmax_of(train, track);
     let noted = noted_brakes(train, r, brakes);
     let since = noted.since;
     let rolled = noted.roll;
@@ -150,7 +151,7 @@ fn supervise(command: &[u8], r: Reading, stm: Stm) -> Stm
         state: state_after(added.failed, state),
     };
     next.control = led;
-    next.track = with_curves(moved, curve::note_all(curves, judged));
+    next.track = with_curves(track, curve::note_all(curves, judged));
     next.brakes = left;
     next.feedback = measured;
     next.kept = kept;
@@ -170,11 +171,10 @@ pub fn take_reading(command: &[u8], r: Reading, stm: Stm) -> Stm
 {
     let control = stm.control;
     let state = control.state;
+    let moved = moved_in(state, r, stm);
     match state {
-        State::DE => measure(command, r, stm),
-        State::CS => measure(command, r, stm),
-        State::HS => move_and_measure(command, r, stm),
-        State::DA => supervise(command, r, stm),
-        State::FA => remember(command, stm),
+        State::DE | State::CS | State::HS => measure(command, r, moved),
+        State::DA => supervise(command, r, moved),
+        State::FA => remember(command, moved),
     }
 }

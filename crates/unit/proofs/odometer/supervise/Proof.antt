@@ -5,9 +5,6 @@ use Rattle.unit.proofs.Supervising.{Steps, last-is, judged-last, vmax-l
 use Rattle.unit.proofs.odometer.supervise.Statement.{statement}
 use Rattle.unit.proofs.odometer.supervise.Tie as tie
 
-moved-track-requires : tie.Need-moved-track-requires
-moved-track-requires c κs = tt
-
 feedback-after-requires : tie.Need-feedback-after-requires
 feedback-after-requires c κs = tt
 
@@ -59,7 +56,7 @@ rolled-in-requires c κs = tt
 -- where the function begins
 abbrev start : tie.After-with-curves → tie.Start
 start c =
-    c .before .before .before .before .before .before .before .before .before .before .before .before .before .before .before .before .before .before .before .before .before .before .before .before
+    c .before .before .before .before .before .before .before .before .before .before .before .before .before .before .before .before .before .before .before .before .before .before .before
 
 -- the steps up to the report
 abbrev steps : (c : tie.After-with-curves) → Steps (start c .args .r) (start c .args .stm)
@@ -77,9 +74,7 @@ steps c =
     let at-judged = at-vmax .before in
     let at-kept = at-judged .before .before in
     let at-measured = at-kept .before in
-    let at-moved = at-measured .before in
     record {
-      moved = at-moved .moved-track .result;
       measured = at-measured .feedback-after .result;
       kept = at-kept .kept-of .result;
       judged = at-judged .judge-now .result;
@@ -94,7 +89,6 @@ steps c =
       state = at-state .state-after .result;
       curves = at-curves .note-all .result;
       track = c .with-curves .result;
-      moved-is = at-moved .moved-track .ensures;
       measured-is = at-measured .feedback-after .ensures;
       kept-is = at-kept .kept-of .ensures;
       judged-is = at-judged .judge-now .ensures;
@@ -126,7 +120,6 @@ pub supervise-spec : {M : Type 1} → statement M
 supervise-spec =
     tie.close
     (tie.spec
-    moved-track-requires
     feedback-after-requires
     kept-of-requires
     judge-now-requires
