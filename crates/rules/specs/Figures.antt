@@ -97,15 +97,15 @@ FiguresHold = foldr _&&_ true figures ≡ true
 -- ---- the example stream
 
 -- "prints, a line each, the answer and, if accepted or again, a space and the report"
-pub record Line : Type 0 where
+pub record Printed : Type 0 where
   pub answer : ℕ
   pub report : List ℕ
 
-abbrev pub line : ℕ → List ℕ → Line
-line answer report = record { answer = answer; report = report }
+abbrev pub printed : ℕ → List ℕ → Printed
+printed answer report = record { answer = answer; report = report }
 
-abbrev pub lineAt : Moment → Line
-lineAt m = line (answerNumber (m .answer)) (cond (isRefused (m .answer)) [] (m .area))
+abbrev pub printedAt : Moment → Printed
+printedAt m = printed (answerNumber (m .answer)) (cond (isRefused (m .answer)) [] (m .area))
 
 -- "Input 01 00000001 00 00A0 0190 02BC 01F4 1E 14 14 1E 0A 0F 32 017C 0D, then 02 00000002 01 twice, 02 00000003 03, 7F"
 abbrev pub exampleStream : List Sent
@@ -118,14 +118,14 @@ exampleStream =
     ∷ []
 
 -- "0 0000000000000000FF0000000000", "0 0100000000000000FF0000000000", "100 0100000000000000FF0000000000", "10", "3"
-abbrev pub exampleLines : List Line
+abbrev pub exampleLines : List Printed
 exampleLines =
-    line 0 (0x00 ∷ 0x00 ∷ 0x00 ∷ 0x00 ∷ 0x00 ∷ 0x00 ∷ 0x00 ∷ 0x00 ∷ 0xFF ∷ 0x00 ∷ 0x00 ∷ 0x00 ∷ 0x00 ∷ 0x00 ∷ [])
-    ∷ line 0 (0x01 ∷ 0x00 ∷ 0x00 ∷ 0x00 ∷ 0x00 ∷ 0x00 ∷ 0x00 ∷ 0x00 ∷ 0xFF ∷ 0x00 ∷ 0x00 ∷ 0x00 ∷ 0x00 ∷ 0x00 ∷ [])
-    ∷ line 100 (0x01 ∷ 0x00 ∷ 0x00 ∷ 0x00 ∷ 0x00 ∷ 0x00 ∷ 0x00 ∷ 0x00 ∷ 0xFF ∷ 0x00 ∷ 0x00 ∷ 0x00 ∷ 0x00 ∷ 0x00 ∷ [])
-    ∷ line 10 []
-    ∷ line 3 []
+    printed 0 (0x00 ∷ 0x00 ∷ 0x00 ∷ 0x00 ∷ 0x00 ∷ 0x00 ∷ 0x00 ∷ 0x00 ∷ 0xFF ∷ 0x00 ∷ 0x00 ∷ 0x00 ∷ 0x00 ∷ 0x00 ∷ [])
+    ∷ printed 0 (0x01 ∷ 0x00 ∷ 0x00 ∷ 0x00 ∷ 0x00 ∷ 0x00 ∷ 0x00 ∷ 0x00 ∷ 0xFF ∷ 0x00 ∷ 0x00 ∷ 0x00 ∷ 0x00 ∷ 0x00 ∷ [])
+    ∷ printed 100 (0x01 ∷ 0x00 ∷ 0x00 ∷ 0x00 ∷ 0x00 ∷ 0x00 ∷ 0x00 ∷ 0x00 ∷ 0xFF ∷ 0x00 ∷ 0x00 ∷ 0x00 ∷ 0x00 ∷ 0x00 ∷ [])
+    ∷ printed 10 []
+    ∷ printed 3 []
     ∷ []
 
 abbrev pub ExampleHolds : Type 0
-ExampleHolds = map lineAt (moments freshStm exampleStream) ≡ exampleLines
+ExampleHolds = map printedAt (moments freshStm exampleStream) ≡ exampleLines

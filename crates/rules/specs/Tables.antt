@@ -394,8 +394,8 @@ trainFigures train =
 abbrev pub buttons : Reading → List ℕ
 buttons r = truth (r .loss) ∷ truth (r .text) ∷ truth (r .halka) ∷ truth (r .neutral) ∷ []
 
-abbrev pub curveFigures : Curve → List ℕ
-curveFigures curve =
+abbrev pub curveFields : Curve → List ℕ
+curveFields curve =
     truth (curve .held)
     ∷ curve .id
     ∷ kindNumber (curve .kind)
@@ -414,8 +414,8 @@ abbrev pub isSame : ℤ → ℤ → Bool
 isSame x y = leZ x y && leZ y x
 
 -- an odometer report as it is read
-abbrev pub readingIn : Command → Reading
-readingIn x = readingOf (operandsOf (x 1 .command))
+abbrev pub readingSent : Command → Reading
+readingSent x = readingOf (operandsOf (x 1 .command))
 
 abbrev pub curveGiven : Stm → Command → Curve
 curveGiven stm x = curveAt 0 (stateAfter stm (sent stm x))
@@ -431,18 +431,18 @@ operandsIn stm =
     -- "flags 1 (bit 0 soft braking, bit 1 cylinder feedback ..)"
     ∷ sameBytes (take 2 (trainFigures (trainAfter (start 1 260 515 1541 1287 8 9 10 11 12 13 46 277 14)))) (1 ∷ 0 ∷ [])
     -- "measured deceleration 2, signed; P_EXT 2, signed half kPa", "in two's complement": FFF9 is −7, FE0C is −500
-    ∷ eqb (readingIn (report 4611 1110 0xFFF9 0xFE0C 0) .speed) 4611
-    ∷ eqb (readingIn (report 4611 1110 0xFFF9 0xFE0C 0) .moved) 1110
-    ∷ isSame (readingIn (report 4611 1110 0xFFF9 0xFE0C 0) .measured) (pos 0 -ℤ pos 7)
-    ∷ isSame (readingIn (report 4611 1110 0xFFF9 0xFE0C 0) .external) (pos 0 -ℤ pos 500)
+    ∷ eqb (readingSent (report 4611 1110 0xFFF9 0xFE0C 0) .speed) 4611
+    ∷ eqb (readingSent (report 4611 1110 0xFFF9 0xFE0C 0) .moved) 1110
+    ∷ isSame (readingSent (report 4611 1110 0xFFF9 0xFE0C 0) .measured) (pos 0 -ℤ pos 7)
+    ∷ isSame (readingSent (report 4611 1110 0xFFF9 0xFE0C 0) .external) (pos 0 -ℤ pos 500)
     -- "buttons 1 (bit 0 LOSS, 1 text, 2 HALKA, 3 neutral; others 0)"
-    ∷ sameBytes (buttons (readingIn (report 0 0 0 0 1))) (1 ∷ 0 ∷ 0 ∷ 0 ∷ [])
-    ∷ sameBytes (buttons (readingIn (report 0 0 0 0 2))) (0 ∷ 1 ∷ 0 ∷ 0 ∷ [])
-    ∷ sameBytes (buttons (readingIn (report 0 0 0 0 4))) (0 ∷ 0 ∷ 1 ∷ 0 ∷ [])
-    ∷ sameBytes (buttons (readingIn (report 0 0 0 0 8))) (0 ∷ 0 ∷ 0 ∷ 1 ∷ [])
+    ∷ sameBytes (buttons (readingSent (report 0 0 0 0 1))) (1 ∷ 0 ∷ 0 ∷ 0 ∷ [])
+    ∷ sameBytes (buttons (readingSent (report 0 0 0 0 2))) (0 ∷ 1 ∷ 0 ∷ 0 ∷ [])
+    ∷ sameBytes (buttons (readingSent (report 0 0 0 0 4))) (0 ∷ 0 ∷ 1 ∷ 0 ∷ [])
+    ∷ sameBytes (buttons (readingSent (report 0 0 0 0 8))) (0 ∷ 0 ∷ 0 ∷ 1 ∷ [])
     -- "id 1 ..; kind 1 ..; distance 2 .. m; speed 2 ..; gradient 1, signed": the distance is kept in cm, F9 is −7
-    ∷ sameBytes (curveFigures (curveGiven stm (curve 9 0 515 260 0xF9))) (1 ∷ 9 ∷ 0 ∷ 51500 ∷ 260 ∷ 1 ∷ 7 ∷ 0 ∷ [])
-    ∷ sameBytes (curveFigures (curveGiven stm (curve 9 1 515 40 7))) (1 ∷ 9 ∷ 1 ∷ 51500 ∷ 40 ∷ 0 ∷ 7 ∷ 0 ∷ [])
+    ∷ sameBytes (curveFields (curveGiven stm (curve 9 0 515 260 0xF9))) (1 ∷ 9 ∷ 0 ∷ 51500 ∷ 260 ∷ 1 ∷ 7 ∷ 0 ∷ [])
+    ∷ sameBytes (curveFields (curveGiven stm (curve 9 1 515 40 7))) (1 ∷ 9 ∷ 1 ∷ 51500 ∷ 40 ∷ 0 ∷ 7 ∷ 0 ∷ [])
     -- "id 1 ..; speed 2": it stands, and no ground is moved since its end
     ∷ sameBytes (sectionFigures (sectionGiven stm (section 9 260))) (1 ∷ 9 ∷ 260 ∷ 0 ∷ 0 ∷ [])
     ∷ []
