@@ -1,11 +1,12 @@
 -- Bytes written in place, and the digits of a number and of a report by them. Assumes nothing.
-use Prim.Native.Nat.{ℕ, _+_, _<_, _≤_, _/_, _%_}
+use Prim.Native.Nat.{ℕ, zero, suc, _+_, _-_, _<_, _≤_, _/_, _%_}
 use mathlib.Core.Path.{_≡_, refl, sym, _∙_, ap}
 use mathlib.Core.List.{List, [], _∷_, _++_, append-assoc}
 use native.Mathlib.Omega.{arith}
+use native.Mathlib.Nat.{sub-zero, zero-sub, suc-sub-suc}
 use native.Mathlib.Numerals.{add-one}
-use lib.ListN.{length, length-set, take, set, getD}
-use lib.Seq.{take-suc, take-suc-set}
+use lib.ListN.{length, length-set, take, drop, set, getD, replicate}
+use lib.Seq.{take-suc, take-suc-set, drop-drop, drop-set-lt}
 use borrow.Author.Tests.{lt-ltb, le-ltb}
 use Rattle.line.specs.Lines.{digitOf, decimalOf, hexOf}
 
@@ -18,6 +19,21 @@ put-two l i x y h =
     let two : i + 2 ≡ i + 1 + 1 = omega arith in
     rw two (put-one (set l i x) (i + 1) y (rw (length-set l i x) h))
     ∙ ap (λ t. t ++ (y ∷ [])) (put-one l i x (omega arith)) ∙ append-assoc (take i l) (x ∷ []) (y ∷ [])
+
+-- what lies behind a place is the same behind every later one
+pub drop-more : (n k : ℕ) (a b : List ℕ) → n ≤ k → drop n a ≡ drop n b → drop k a ≡ drop k b
+drop-more n k a b h e =
+    let on : k ≡ n + (k - n) = omega arith in
+    rw on (sym (drop-drop (k - n) n a) ∙ ap (drop (k - n)) e ∙ drop-drop (k - n) n b)
+
+-- and it stays where two bytes are written in front of it
+pub behind-two : (l : List ℕ) (i x y : ℕ) → drop (i + 2) (set (set l i x) (i + 1) y) ≡ drop (i + 2) l
+behind-two l i x y = drop-set-lt (i + 2) (set l i x) (i + 1) y (omega arith) ∙ drop-set-lt (i + 2) l i x (omega arith)
+
+pub drop-replicate : (n k x : ℕ) → drop n (replicate k x) ≡ replicate (k - n) x
+drop-replicate zero k x = rw (sub-zero k)
+drop-replicate (suc n) zero x = rw (zero-sub (suc n))
+drop-replicate (suc n) (suc k) x = drop-replicate n k x ∙ rw (suc-sub-suc k n)
 
 -- the digits of a number written at the front, by how many it has
 pub one-digit : (l : List ℕ) (n : ℕ) {x : ℕ} → 1 ≤ length l → n < 10 → x ≡ digitOf n → take 1 (set l 0 x) ≡ decimalOf n

@@ -1,10 +1,10 @@
 -- The line of an answer (01, after "Figures to check"): "prints, a line each, the answer and, if accepted or again, a space and the
 -- report in 28 capital hex digits".
-use Prim.Native.Nat.{ℕ, _+_, _*_, _/_, _%_}
+use Prim.Native.Nat.{ℕ, _+_, _-_, _*_, _/_, _%_}
 use mathlib.Core.Bool.{cond}
 use mathlib.Core.List.{List, [], _∷_, _++_}
 use lib.Dec.{ltb}
-use lib.ListN.{take}
+use lib.ListN.{length, replicate}
 use Rattle.wire.specs.Form.{reportLength}
 use Rattle.rules.specs.Numbers.{answerNumber, isAnswered}
 use Rattle.rules.specs.declared.Answer.{Answer}
@@ -41,6 +41,10 @@ unfoldable pub lineOf : Answer → List ℕ → List ℕ
 lineOf answer report =
     (decimalOf (answerNumber answer) ++ cond (isAnswered answer) (space ∷ hexOf report) []) ++ (lineFeed ∷ [])
 
--- the bytes that a line has
-abbrev pub textOf : Line → List ℕ
-textOf line = take (line .length) (line .bytes)
+-- the most bytes that a line has: three digits, a report, a line feed
+abbrev pub lineWidth : ℕ
+lineWidth = 3 + reportWidth + 1
+
+-- a line of this text, with 0 after its end
+abbrev pub filled : List ℕ → Line
+filled text = record { bytes = text ++ replicate (lineWidth - length text) 0; length = length text }

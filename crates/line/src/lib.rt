@@ -3,9 +3,9 @@ ghost use mathlib.Core.Path.{_≡_};
 ghost use mathlib.Core.Bool.{cond};
 ghost use mathlib.Core.List.{_∷_, [], _++_};
 ghost use Prim.Native.Nat.{_+_, _<_, _≤_};
-ghost use lib.ListN.{length, take};
+ghost use lib.ListN.{length, take, drop};
 ghost use Rattle.rules.specs.Numbers.{isAnswered};
-ghost use Rattle.line.specs.Lines.{digitOf, decimalOf, hexOf, space, reportWidth, lineOf, textOf};
+ghost use Rattle.line.specs.Lines.{digitOf, decimalOf, hexOf, space, reportWidth, lineOf, filled};
 use rules::Answer;
 use wire::REPORT_LENGTH;
 
@@ -15,7 +15,7 @@ const REPORT_WIDTH: usize = 1 + 2 * REPORT_LENGTH;
 // The most bytes that a line has: three digits, a report, a line feed.
 pub const WIDTH: usize = 3 + REPORT_WIDTH + 1;
 
-// A line: the first `length` of the bytes are its own.
+// A line: the first `length` of the bytes are its own, the others 0.
 pub struct Line {
     pub bytes: [u8; WIDTH],
     pub length: usize,
@@ -33,6 +33,7 @@ fn put_number(bytes: &mut [u8], n: u8) -> usize
     requires { ⌜ 3 ≤ length (now bytes) ⌝ }
     ensures { λ r. ⌜ r ≤ 3 ⌝ }
     ensures { λ r. ⌜ take r (now (bytes .exit)) ≡ decimalOf n ⌝ }
+    ensures { λ r. ⌜ drop r (now (bytes .exit)) ≡ drop r (now (bytes .entry)) ⌝ }
 {
     if n < 10 {
         bytes[0] = digit(n);
@@ -53,6 +54,7 @@ fn put_number(bytes: &mut [u8], n: u8) -> usize
 fn put_report(bytes: &mut [u8], at: usize, report: [u8; REPORT_LENGTH])
     requires { ⌜ at + reportWidth ≤ length (now bytes) ⌝ }
     ensures { λ _. ⌜ take (at + reportWidth) (now (bytes .exit)) ≡ take at (now (bytes .entry)) ++ (space ∷ hexOf report) ⌝ }
+    ensures { λ _. ⌜ drop (at + reportWidth) (now (bytes .exit)) ≡ drop (at + reportWidth) (now (bytes .entry)) ⌝ }
 {
     bytes[at] = b' ';
     let mut next = at + 1;
@@ -69,6 +71,7 @@ fn put_answered(bytes: &mut [u8], at: usize, answer: Answer, report: [u8; REPORT
     requires { ⌜ (at ≤ 3) × (3 + reportWidth ≤ length (now bytes)) ⌝ }
     ensures { λ r. ⌜ r ≤ 3 + reportWidth ⌝ }
     ensures { λ r. ⌜ take r (now (bytes .exit)) ≡ take at (now (bytes .entry)) ++ cond (isAnswered answer) (space ∷ hexOf report) [] ⌝ }
+    ensures { λ r. ⌜ (at ≤ r) × (drop r (now (bytes .exit)) ≡ drop r (now (bytes .entry))) ⌝ }
 {
     if unit::is_answered(answer) {
         put_report(bytes, at, report);
@@ -79,8 +82,7 @@ fn put_answered(bytes: &mut [u8], at: usize, answer: Answer, report: [u8; REPORT
 
 // The line of an answer; the report is read only where the answer has one.
 pub fn line_of(answer: Answer, report: [u8; REPORT_LENGTH]) -> Line
-    ensures { λ r. ⌜ textOf r ≡ lineOf answer report ⌝ }
-    ensures { λ r. ⌜ r .length ≡ length (lineOf answer report) ⌝ }
+    ensures { λ r. ⌜ r ≡ filled (lineOf answer report) ⌝ }
 {
     let mut bytes = [0; WIDTH];
     let number = put_number(&mut bytes, unit::answer_number(answer));

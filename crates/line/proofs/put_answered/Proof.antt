@@ -1,5 +1,5 @@
 -- `line::put_answered` meets its contract.
-use mathlib.Core.Path.{sym, _∙_}
+use mathlib.Core.Path.{refl, sym, _∙_}
 use mathlib.Core.List.{append-nil}
 use native.Mathlib.Omega.{arith}
 use lib.ListN.{take}
@@ -25,14 +25,14 @@ returns c =
     let o = c .before .before in
     let t = o .before .before in
     let answered = sym (t .before .is-answered .ensures) ∙ t .if1 .taken in
-    (omega arith, rw answered (o .put-report .ensures))
+    (omega arith, (rw answered (o .put-report .ensures .0), (omega arith, o .put-report .ensures .1)))
 
 returns-2 : tie.Need-returns-2
 returns-2 c =
     let o = c .before in
     let a = o .before .before .args in
     let refused = sym (o .is-answered .ensures) ∙ c .if1 .left in
-    (omega arith, rw refused (sym (append-nil (take (a .at) (now (a .bytes))))))
+    (omega arith, (rw refused (sym (append-nil (take (a .at) (now (a .bytes))))), (omega arith, refl)))
 
 pub put-answered-spec : {M : Type 1} → statement M
 put-answered-spec =

@@ -1,9 +1,12 @@
 -- `line::put_number` meets its contract.
+use mathlib.Core.Path.{_∙_}
 use native.Mathlib.Omega.{arith}
 use denote.Ref.{now}
-use lib.ListN.{length-set}
+use lib.Dec.{lit<}
+use lib.ListN.{length-set, set}
+use lib.Seq.{drop-set-lt}
 use borrow.Author.Needs.{needs}
-use Rattle.line.proofs.Text.{one-digit, two-digits, three-digits}
+use Rattle.line.proofs.Text.{drop-more, behind-two, one-digit, two-digits, three-digits}
 use Rattle.line.proofs.put_number.Statement.{statement}
 use Rattle.line.proofs.put_number.Tie as tie
 
@@ -19,7 +22,8 @@ same-length c = search needs
 returns : tie.Need-returns
 returns c =
     let a = c .before .before .before .args in
-    (omega arith, one-digit (now (a .bytes)) (a .n) (omega arith) (c .before .if1 .taken) (c .digit .ensures))
+    let l = now (a .bytes) in
+    (omega arith, (one-digit l (a .n) (omega arith) (c .before .if1 .taken) (c .digit .ensures), drop-set-lt 1 l 0 _ (lit< tt)))
 
 digit-requires-2 : tie.Need-digit-requires-2
 digit-requires-2 c κs = search needs
@@ -40,7 +44,10 @@ returns-2 : tie.Need-returns-2
 returns-2 c =
     let o = c .before .before in
     let a = o .before .before .before .args in
-    (omega arith, two-digits (now (a .bytes)) (a .n) (omega arith) (o .before .if1 .left) (o .if2 .taken) (c .before .digit2 .ensures) (c .digit3 .ensures))
+    let l = now (a .bytes) in (
+      omega arith,
+      (two-digits l (a .n) (omega arith) (o .before .if1 .left) (o .if2 .taken) (c .before .digit2 .ensures) (c .digit3 .ensures), behind-two l 0 _ _),
+    )
 
 digit-requires-4 : tie.Need-digit-requires-4
 digit-requires-4 c κs = search needs
@@ -67,7 +74,14 @@ returns-3 : tie.Need-returns-3
 returns-3 c =
     let o = c .before .before in
     let a = o .before .before .before .before .args in
-    (omega arith, three-digits (now (a .bytes)) (a .n) (omega arith) (o .before .if2 .left) (o .digit4 .ensures) (c .before .digit5 .ensures) (c .digit6 .ensures))
+    let l = now (a .bytes) in
+    let two = set (set l 0 (o .digit4 .result)) 1 (c .before .digit5 .result) in (
+      omega arith,
+      (
+        three-digits l (a .n) (omega arith) (o .before .if2 .left) (o .digit4 .ensures) (c .before .digit5 .ensures) (c .digit6 .ensures),
+        drop-set-lt 3 two 2 (c .digit6 .result) (lit< tt) ∙ drop-more 2 3 two l (omega arith) (behind-two l 0 (o .digit4 .result) (c .before .digit5 .result)),
+      ),
+    )
 
 pub put-number-spec : {M : Type 1} → statement M
 put-number-spec =

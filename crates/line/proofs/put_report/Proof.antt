@@ -1,17 +1,17 @@
 -- `line::put_report` meets its contract.
 use Prim.Native.Nat.{_≤_, _+_, _*_, _-_}
-use mathlib.Core.Path.{_≡_, refl, sym}
+use mathlib.Core.Path.{_≡_, refl, sym, _∙_}
 use mathlib.Core.List.{_++_, append-nil, append-assoc}
 use native.Mathlib.Omega.{arith}
 use mir.Syntax.{w8}
 use mir.Val.{Fits}
 use denote.Ref.{now}
-use lib.ListN.{length, length-set, take, set, getD}
-use lib.Seq.{take-all}
+use lib.ListN.{length, length-set, take, drop, set, getD}
+use lib.Seq.{take-all, drop-set-lt}
 use borrow.Author.Needs.{needs}
 use Rattle.wire.specs.Form.{reportLength}
 use Rattle.line.specs.Lines.{hexOf, space, reportWidth}
-use Rattle.line.proofs.Text.{put-one, put-hex}
+use Rattle.line.proofs.Text.{put-one, put-hex, behind-two, drop-more}
 use Rattle.line.proofs.put_report.Statement.{statement}
 use Rattle.line.proofs.put_report.Tie as tie
 
@@ -23,6 +23,7 @@ Inv-loop bytes₀ at report next₀ i₀ bytes next i =
     × (length bytes ≡ length bytes₀)
     × (next₀ + 2 * reportLength ≤ length bytes₀)
     × (take next bytes ≡ take next₀ bytes₀ ++ hexOf (take i report))
+    × (drop next bytes ≡ drop next bytes₀)
 
 abbrev μ-loop : tie.MeasureT-loop
 μ-loop bytes₀ at report next₀ i₀ bytes next i = reportLength - i
@@ -35,7 +36,7 @@ add-next c = omega arith
 
 loop-holds : tie.Need-loop-holds Inv-loop μ-loop
 unfolding hexOf
-loop-holds c = (omega arith, search needs, omega arith, refl, simp length-set (omega arith), sym (append-nil _))
+loop-holds c = (omega arith, search needs, omega arith, refl, simp length-set (omega arith), sym (append-nil _), refl)
 
 array-read-byte : tie.Need-array-read-byte Inv-loop μ-loop
 array-read-byte c = omega arith
@@ -79,6 +80,7 @@ loop-again c =
       simp (length-set, v .3),
       v .4,
       put-hex text (a .t3) (o .loop .bytes) (o .loop .i) (o .loop .next) 0 (v .5) (omega arith) (omega arith) (c .before .digit .ensures) (c .digit2 .ensures),
+      behind-two (o .loop .bytes) (o .loop .next) _ _ ∙ drop-more (o .loop .next) (o .loop .next + 2) _ _ (omega arith) (v .6),
     )
 
 same-length : tie.Need-same-length Inv-loop μ-loop
@@ -92,7 +94,8 @@ returns c =
     let end : a .at + reportWidth ≡ o .loop .next = omega arith in
     let all = take-all (o .loop .i) (a .t3) (omega arith) in
     let start = put-one (now (a .bytes)) (a .at) space (omega arith) in
-    rw (end, v .5, all, start, append-assoc)
+    let behind = v .6 ∙ drop-set-lt (o .loop .next) (now (a .bytes)) (a .at) space (omega arith) in
+    (rw (end, v .5, all, start, append-assoc), rw end behind)
 
 pub put-report-spec : {M : Type 1} → statement M
 put-report-spec =
