@@ -1,7 +1,7 @@
 // The deceleration b.
 ghost use mathlib.Core.Path.{_≡_};
 ghost use Prim.Native.Nat.{_-_};
-ghost use Rattle.curve.specs.Deceleration.{levelOf, decelerationOf};
+ghost use Rattle.curve.specs.Deceleration.{levelOf, gradientFrom, decelerationOf};
 use crate::Direction;
 use crate::Gradient;
 
@@ -10,6 +10,24 @@ pub fn level_of(full: u16, soft: u16, halka: bool) -> u16
     ensures { λ r. ⌜ r ≡ levelOf full soft halka ⌝ }
 {
     if halka { soft } else { full }
+}
+
+// A signed gradient as a direction and a size.
+pub fn gradient_from(slope: i8) -> Gradient
+    ensures { λ r. ⌜ r ≡ gradientFrom slope ⌝ }
+{
+    let wide = slope as i16;
+    if wide < 0 {
+        Gradient {
+            direction: Direction::Down,
+            size: (0 - wide) as u8,
+        }
+    } else {
+        Gradient {
+            direction: Direction::Up,
+            size: wide as u8,
+        }
+    }
 }
 
 // On a gradient.

@@ -14,6 +14,7 @@ pub use boundary::f_reached;
 pub use boundary::reached;
 pub use boundary::reached_at_kmh;
 pub use deceleration::deceleration_of;
+pub use deceleration::gradient_from;
 pub use deceleration::level_of;
 pub use intervals::interval_of;
 pub use intervals::rank_of;

@@ -10,8 +10,6 @@
 //   23  the ground moved before the judging (2)
 use curve::Braking;
 use curve::Curve;
-use curve::Direction;
-use curve::Gradient;
 use curve::Kind;
 use curve::Times;
 
@@ -54,24 +52,9 @@ fn kind_of(byte: u8) -> Kind {
     }
 }
 
-// A byte in two's complement as a direction and a size.
-fn gradient_of(byte: u8) -> Gradient {
-    if byte < 128 {
-        Gradient {
-            direction: Direction::Up,
-            size: byte,
-        }
-    } else {
-        Gradient {
-            direction: Direction::Down,
-            size: (256 - byte as u16) as u8,
-        }
-    }
-}
-
 pub fn curve_of(r: &[u8], held: bool) -> Curve {
     let kind = kind_of(wire::byte_at(r, 14));
-    let gradient = gradient_of(wire::byte_at(r, 21));
+    let gradient = curve::gradient_from(wire::signed8(wire::byte_at(r, 21)));
     Curve {
         held,
         id: wire::byte_at(r, 1),

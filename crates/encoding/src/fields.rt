@@ -1,8 +1,7 @@
 // The operands of the commands and their ranges. Each is read at its place after the code and the number.
 ghost use mathlib.Core.Path.{_≡_};
-ghost use Rattle.rules.specs.Operands.{bitOf, within, feedOf, trainOf, trainInRange, startInRange, readingOf, odometerInRange, kindOf, speedInRange, gradientFrom, gradientOf, curveOf, curveInRange, newCurveInRange, sectionOf, sectionInRange, inRange};
+ghost use Rattle.rules.specs.Operands.{bitOf, within, feedOf, trainOf, trainInRange, startInRange, readingOf, odometerInRange, kindOf, speedInRange, gradientOf, curveOf, curveInRange, newCurveInRange, sectionOf, sectionInRange, inRange};
 use curve::Curve;
-use curve::Direction;
 use curve::Gradient;
 use curve::Kind;
 use curve::Times;
@@ -131,28 +130,10 @@ fn speed_in_range(kind: Kind, speed: u16) -> bool
     }
 }
 
-// A signed number as a direction and a size.
-fn gradient_from(slope: i8) -> Gradient
-    ensures { λ r. ⌜ r ≡ gradientFrom slope ⌝ }
-{
-    let wide = slope as i16;
-    if wide < 0 {
-        Gradient {
-            direction: Direction::Down,
-            size: (0 - wide) as u8,
-        }
-    } else {
-        Gradient {
-            direction: Direction::Up,
-            size: wide as u8,
-        }
-    }
-}
-
 fn gradient_of(byte: u8) -> Gradient
     ensures { λ r. ⌜ r ≡ gradientOf byte ⌝ }
 {
-    gradient_from(wire::signed8(byte))
+    curve::gradient_from(wire::signed8(byte))
 }
 
 // The curve, its distance in cm.

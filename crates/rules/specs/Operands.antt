@@ -1,17 +1,16 @@
 -- The operands of the commands and their ranges (01, "Commands", the table's third column). Each is read at its place after the
 -- code and the number; refusals 3 and 4 have gone before.
-use Prim.Native.Nat.{ℕ, suc, _*_, _/_, _%_, _^_}
+use Prim.Native.Nat.{ℕ, _*_, _/_, _%_, _^_}
 use mathlib.Core.Bool.{Bool, true, false, cond, _&&_, _||_}
 use mathlib.Core.List.{List}
 use lib.Dec.{eqb, leb}
-use lib.IntN.{ℤ, pos, negsuc}
 use lib.ListN.{drop}
 use Rattle.wire.specs.Numbers.{byteAt, number, signed}
 use Rattle.pressure.specs.declared.Feed.{Feed}
 use Rattle.curve.specs.declared.Kind.{Kind}
-use Rattle.curve.specs.declared.Direction.{Direction}
 use Rattle.curve.specs.declared.Gradient.{Gradient}
 use Rattle.curve.specs.declared.Curve.{Curve}
+use Rattle.curve.specs.Deceleration.{gradientFrom}
 use Rattle.rules.specs.declared.Code.{Code}
 use Rattle.rules.specs.declared.Train.{Train}
 use Rattle.rules.specs.declared.Section.{Section}
@@ -114,11 +113,7 @@ abbrev pub speedInRange : Kind → ℕ → Bool
 speedInRange Kind.SpeedTarget speed = within 10 300 speed
 speedInRange Kind.ExpectStop speed = eqb speed 10 || eqb speed 40
 
--- "gradient 1, signed": a direction and a size
-abbrev pub gradientFrom : ℤ → Gradient
-gradientFrom (pos n) = record { direction = Direction.Up; size = n }
-gradientFrom (negsuc n) = record { direction = Direction.Down; size = suc n }
-
+-- "gradient 1, signed"
 abbrev pub gradientOf : ℕ → Gradient
 gradientOf byte = gradientFrom (signed 256 byte)
 

@@ -2,7 +2,7 @@
 use mathlib.Core.Path.{_∙_, ap}
 use mir.Syntax.{w8}
 use mir.ValLaws.{toZ-ofZ}
-use Rattle.rules.specs.Operands.{gradientFrom}
+use Rattle.curve.specs.Deceleration.{gradientFrom}
 use Rattle.encoding.proofs.fields.gradient_of.Statement.{statement}
 use Rattle.encoding.proofs.fields.gradient_of.Tie as tie
 

@@ -1,4 +1,4 @@
--- `encoding::fields::gradient_from` meets its contract.
+-- `curve::deceleration::gradient_from` meets its contract.
 use Prim.Native.Nat.{ℕ, suc}
 use mathlib.Core.Path.{_≡_, refl, sym, _∙_}
 use mathlib.Core.Bool.{true, false, false≢true}
@@ -11,11 +11,11 @@ use mir.Syntax.{w8, w16}
 use mir.Val.{Fits, SFits, toZ, ofZ}
 use mir.ValLaws.{toZ-ofZ}
 use borrow.Author.Tests.{ltb-true}
 use Rattle.curve.specs.declared.Direction.{Direction}
 use Rattle.curve.specs.declared.Gradient.{Gradient}
-use Rattle.rules.specs.Operands.{gradientFrom}
-use Rattle.encoding.proofs.fields.gradient_from.Statement.{statement}
-use Rattle.encoding.proofs.fields.gradient_from.Tie as tie
+use Rattle.curve.specs.Deceleration.{gradientFrom}
+use Rattle.curve.proofs.deceleration.gradient_from.Statement.{statement}
+use Rattle.curve.proofs.deceleration.gradient_from.Tie as tie
 
 -- a number of 8 bits in 16
 module _ (x : ℤ) (f : SFits w8 x) where
