@@ -1,18 +1,18 @@
 -- A command's form and the splitting of a stream go by the same lengths. Assumes nothing.
 use Prim.Native.Nat.{ℕ, _+_, _≤_, _<_}
-use mathlib.Core.Path.{_≡_, refl, sym, ap}
+use mathlib.Core.Path.{_≡_, refl, sym, ap, _∙_}
 use mathlib.Core.Bool.{Bool, true, false, cond, not}
 use mathlib.Core.Option.{none, some}
-use mathlib.Core.List.{List, _++_}
+use mathlib.Core.List.{List, _++_, append-assoc}
 use native.Mathlib.Omega.{arith}
 use lib.Dec.{eqb, ltb}
-use lib.ListN.{length, take, length-append, List·getD-append}
+use lib.ListN.{length, take, drop, length-append, take-append-drop, List·getD-append}
 use lib.Seq.{length-take-le, getD-take}
-use borrow.Author.Tests.{eqb-true, ltb-true, ltb-false, le-ltb, eq-eqb, ne-eqb, not-false}
+use borrow.Author.Tests.{eqb-true, eqb-false, ltb-true, ltb-false, le-ltb, eq-eqb, ne-eqb, not-false}
 use Rattle.wire.specs.declared.codes.Length.{Length}
 use Rattle.wire.specs.declared.form.Form.{Form}
 use Rattle.wire.specs.declared.split.Next.{Next}
-use Rattle.wire.specs.Codes.{lengthOf}
+use Rattle.wire.specs.Codes.{lengthOf, shortest, longest}
 use Rattle.wire.specs.Form.{codeForm, formOf, codeRefusal, refusalTo, refusalOf, reportLength}
 use Rattle.wire.specs.Numbers.{byteAt}
 use Rattle.wire.specs.Split.{codeNext, nextCommand, shortRefusal, restRefusal, nextRefusal}
@@ -73,6 +73,64 @@ whole-split s rest area e =
     let some-bytes = ne-eqb (length s + length rest) 0 (omega arith) in
     let enough = le-ltb (length s + length rest) (length s) (omega arith) in
     rw (length-append, first, whole-length s area e, some-bytes, enough)
+
+-- a command at the front stays the next one whatever comes later, and so does a byte that is no code
+pub command-stays : (s t : List ℕ) (n : ℕ) → nextCommand s ≡ Next.Command n → nextCommand (s ++ t) ≡ Next.Command n
+command-stays s t n e =
+    let (h, whole) = split-whole s n e in
+    let parts : take n s ++ (drop n s ++ t) ≡ s ++ t = sym (append-assoc (take n s) (drop n s) t) ∙ ap (λ l. l ++ t) (take-append-drop n s) in
+    rw (sym parts) (whole-split (take n s) (drop n s ++ t) reportLength whole ∙ ap Next.Command (length-take-le n s h))
+
+codeNext-no-code : (l : Length) (left : ℕ) → codeNext l left ≡ Next.NoCode → l ≡ Length.NoCode
+unfolding codeNext
+codeNext-no-code Length.NoCode left e = refl
+codeNext-no-code (Length.Bytes m) left e =
+    absurd (never (cc (cond-second (ltb left m) Next.Short (Next.Command m) e (λ q. never (cc)) .1)))
+
+pub no-code-first : (s : List ℕ) → nextCommand s ≡ Next.NoCode → (1 ≤ length s) × (lengthOf (byteAt s 0) ≡ Length.NoCode)
+unfolding nextCommand
+no-code-first s e =
+    let p = cond-second (eqb (length s) 0) Next.End _ e (λ q. never (cc)) in
+    let some-bytes = eqb-false (length s) 0 (p .0) in
+    (omega (arith, some-bytes), codeNext-no-code (lengthOf (byteAt s 0)) (length s) (p .1))
+
+pub no-code-stays : (s t : List ℕ) → nextCommand s ≡ Next.NoCode → nextCommand (s ++ t) ≡ Next.NoCode
+unfolding nextCommand codeNext
+no-code-stays s t e =
+    let (h, no-code) = no-code-first s e in
+    let first : byteAt (s ++ t) 0 ≡ byteAt s 0 = List·getD-append s t 0 0 (omega arith) in
+    rw (length-append, first, no-code, ne-eqb (length s + length t) 0 (omega arith))
+
+-- a command that is not whole yet is shorter than the longest
+codeNext-short : (l : Length) (left : ℕ) → codeNext l left ≡ Next.Short → (n : ℕ) × (l ≡ Length.Bytes n) × (left < n)
+unfolding codeNext
+codeNext-short Length.NoCode left e = absurd (never (cc))
+codeNext-short (Length.Bytes m) left e =
+    (m, refl, ltb-true left m (cond-first (ltb left m) Next.Short (Next.Command m) e (λ q. never (cc)) .0))
+
+pub short-length : (s : List ℕ) → nextCommand s ≡ Next.Short → (1 ≤ length s) × (length s < longest)
+unfolding nextCommand
+short-length s e =
+    let p = cond-second (eqb (length s) 0) Next.End _ e (λ q. never (cc)) in
+    let (n, l, h) = codeNext-short (lengthOf (byteAt s 0)) (length s) (p .1) in
+    let some-bytes = eqb-false (length s) 0 (p .0) in
+    (omega (arith, some-bytes), omega (arith, lengths-within (byteAt s 0) n l .1))
+
+codeNext-end : (l : Length) (left : ℕ) → codeNext l left ≡ Next.End → ⊥
+unfolding codeNext
+codeNext-end Length.NoCode left e = never (cc)
+codeNext-end (Length.Bytes m) left e = never (cc (cond-second (ltb left m) Next.Short (Next.Command m) e (λ q. never (cc)) .1))
+
+pub end-length : (s : List ℕ) → nextCommand s ≡ Next.End → length s ≡ 0
+unfolding nextCommand codeNext
+end-length s e = eqb-true (length s) 0 (cond-first (eqb (length s) 0) Next.End _ e (λ q. codeNext-end (lengthOf (byteAt s 0)) (length s) q) .0)
+
+pub command-length : (s : List ℕ) (n : ℕ) → nextCommand s ≡ Next.Command n → (shortest ≤ n) × (n ≤ length s)
+unfolding nextCommand
+command-length s n e =
+    let p = cond-second (eqb (length s) 0) Next.End _ e (λ q. never (cc)) in
+    let (l, h) = codeNext-command (lengthOf (byteAt s 0)) (length s) (p .1) in
+    (lengths-within (byteAt s 0) n l .0, h)
 
 -- a case of `Form` has 01's number of the first refusal that applies
 code-number : (l : Length) (n : ℕ) → refusalOf (codeForm l n) ≡ codeRefusal l n

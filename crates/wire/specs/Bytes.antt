@@ -1,9 +1,9 @@
--- Equal bytes and copied bytes.
+-- Equal bytes, and copied bytes.
 use Prim.Native.Nat.{ℕ}
 use mathlib.Core.Bool.{Bool, true, false, cond}
-use mathlib.Core.List.{List, [], _∷_}
+use mathlib.Core.List.{List, [], _∷_, _++_}
 use lib.Dec.{eqb}
-use lib.ListN.{length}
+use lib.ListN.{length, drop}
 
 -- 01, "number and bytes are those of the last accepted command"
 unfoldable pub sameBytes : List ℕ → List ℕ → Bool
@@ -16,3 +16,7 @@ sameBytes (x ∷ xs) (y ∷ ys) = cond (eqb x y) (sameBytes xs ys) false
 -- long, and otherwise the target as it was
 unfoldable pub copied : List ℕ → List ℕ → List ℕ
 copied source target = cond (eqb (length source) (length target)) source target
+
+-- bytes put at the front of an area, with what stands behind them left as it was
+unfoldable pub placed : List ℕ → List ℕ → List ℕ
+placed text area = text ++ drop (length text) area

@@ -10,6 +10,10 @@ use Rattle.wire.specs.declared.codes.Length.{Length}
 abbrev pub row : ℕ → ℕ → Row
 row c n = record { code = c; length = n }
 
+-- the bytes of the shortest command, "One code byte, a four-byte number"
+abbrev pub shortest : ℕ
+shortest = 5
+
 -- the bytes of the longest command, a start
 abbrev pub longest : ℕ
 longest = 24

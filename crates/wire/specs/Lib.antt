@@ -2,4 +2,6 @@ pub mod Bytes
 pub mod Codes
 pub mod Form
 pub mod Numbers
+pub mod Portions
+pub mod Reads
 pub mod Split

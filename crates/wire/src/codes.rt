@@ -11,6 +11,9 @@ pub struct Row {
 // How many codes there are.
 pub const CODES: usize = 10;
 
+// The bytes of the shortest command, a code and a number.
+pub const SHORTEST: usize = 5;
+
 // The bytes of the longest command, a start.
 pub const LONGEST: usize = 24;
 

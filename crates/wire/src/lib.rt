@@ -1,20 +1,24 @@
 // Commands as bytes, as 01 lays them out: the code table, refusals 1 to 4, the operand part, the next command of a
-// stream, numbers high byte first, and equal and copied bytes.
+// stream and its portions, numbers high byte first, and equal and copied bytes.
 //
 // No public function has a `requires`: each is defined at every input.
 mod bytes;
 mod codes;
 mod form;
 mod numbers;
+mod portions;
 mod split;
 
 pub use bytes::copy_whole;
+pub use bytes::part;
 pub use bytes::same;
+pub use bytes::to_front;
 pub use codes::CODES;
 pub use codes::COMMANDS;
 pub use codes::LONGEST;
 pub use codes::Length;
 pub use codes::Row;
+pub use codes::SHORTEST;
 pub use codes::length_of;
 pub use form::Form;
 pub use form::REPORT_LENGTH;
@@ -27,5 +31,7 @@ pub use numbers::high;
 pub use numbers::low;
 pub use numbers::signed8;
 pub use numbers::signed16;
+pub use portions::Portion;
+pub use portions::next_portion;
 pub use split::Next;
 pub use split::next_command;

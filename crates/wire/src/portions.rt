@@ -1,0 +1,32 @@
+// The portions of a stream: the bytes that the unit is given, a call each.
+ghost use mathlib.Core.Path.{_≡_};
+ghost use Rattle.wire.specs.Portions.{nextPortion};
+use crate::split::Next;
+use crate::split::next_command;
+
+pub enum Portion {
+    // There is none, or it is not whole yet.
+    Nothing,
+    // A command of so many bytes.
+    Command(usize),
+    // So many bytes that are refused by 3 or 4: the stream ends with them.
+    Last(usize),
+}
+
+// What of the bytes at hand is given to the unit next. `all` says that no bytes come after them.
+pub fn next_portion(rest: &[u8], all: bool) -> Portion
+    ensures { λ r. ⌜ r ≡ nextPortion all (now (rest .entry)) ⌝ }
+{
+    match next_command(rest) {
+        Next::End => Portion::Nothing,
+        Next::NoCode => Portion::Last(1),
+        Next::Short => {
+            if all {
+                Portion::Last(rest.len())
+            } else {
+                Portion::Nothing
+            }
+        }
+        Next::Command(n) => Portion::Command(n),
+    }
+}
