@@ -8,6 +8,7 @@ use lib.ListN.{length, take, drop, length-append, length-drop, take-append-drop}
 use lib.Seq.{take-append-le, drop-append-le, drop-drop, length-take-le}
 use Rattle.wire.specs.declared.portions.Portion.{Portion}
 use Rattle.wire.specs.declared.split.Next.{Next}
+use Rattle.wire.specs.Claims.{NothingLost, EmptyEnds, WaitsShort}
 use Rattle.wire.specs.Codes.{shortest, longest}
 use Rattle.wire.specs.Portions.{portionAt, nextPortion, portionLength, Given, given, givenBy, givenWithin, givenOf, leftOf}
 use Rattle.wire.specs.Split.{nextCommand}
@@ -94,3 +95,159 @@ seen s = by (nextCommand s) refl
     by (Next.Command n) e =
         let (short, long) = command-length s n e in
         command n short long (λ all t. rw (command-stays s t n e))
+
+alone : (s : List ℕ) (all : Bool) {p : Portion} → ((all : Bool) (t : List ℕ) → nextPortion all (s ++ t) ≡ p) → nextPortion all s ≡ p
+alone s all e = rw (append-nil s) at (e all [])
+
+-- what is not given after a command is what is not given of the bytes behind it
+pub left-command : (all : Bool) (s : List ℕ) (n : ℕ) → nextPortion all s ≡ Portion.Command n → leftOf all s ≡ leftOf all (drop n s)
+unfolding leftOf flatten
+left-command all s n e =
+    let more = flatten (givenOf all (drop n s) .portions) in
+    let long = portion-within all s n e .1 in
+    let counted : length (take n s ++ more) ≡ n + length more = length-append (take n s) more ∙ ap (λ k. k + length more) (length-take-le n s long) in
+    rw (given-command all s n e, counted) (sym (drop-drop (length more) n s))
+
+pub left-nothing : (all : Bool) (s : List ℕ) → nextPortion all s ≡ Portion.Nothing → leftOf all s ≡ s
+unfolding leftOf flatten
+left-nothing all s e = rw (given-nothing all s e)
+
+-- what is given before and after a read
+abbrev pub joined : List (List ℕ) → Given → Given
+joined portions g = given (portions ++ g .portions) (g .ended)
+
+-- a stream that has ended gets no more
+pub given-over : (k : ℕ) (all : Bool) (s t : List ℕ) → length s < k → givenOf false s .ended ≡ true → givenOf all (s ++ t) ≡ givenOf false s
+given-over zero all s t h e = absurd (omega (arith, h))
+given-over (suc k) all s t h e = by (seen s) (λ n g f. given-over k all (drop n s) t g f)
+  where
+    by : Seen s
+        → ((n : ℕ) → length (drop n s) < k → givenOf false (drop n s) .ended ≡ true → givenOf all (drop n s ++ t) ≡ givenOf false (drop n s))
+        → givenOf all (s ++ t) ≡ givenOf false s
+    by (waits p short) more = absurd (false≢true (rw (given-nothing false s p) at e))
+    by (command n short long p) more =
+        let now = given-command false s n (alone s false p) in
+        let left : length (drop n s) ≡ length s - n = length-drop n s in
+        let rest = more n (omega (arith, left)) (rw now at e) in
+        given-command all (s ++ t) n (p all t)
+        ∙ rw (take-append-le n s t long, drop-append-le n s t long, rest) (sym now)
+    by (no-code some p) more =
+        given-last all (s ++ t) 1 (p all t) ∙ rw (take-append-le 1 s t some) (sym (given-last false s 1 (alone s false p)))
+
+-- and otherwise the bytes that wait come first
+pub given-joined : (k : ℕ) (all : Bool) (s t : List ℕ) → length s < k → givenOf false s .ended ≡ false
+    → givenOf all (s ++ t) ≡ joined (givenOf false s .portions) (givenOf all (leftOf false s ++ t))
+given-joined zero all s t h e = absurd (omega (arith, h))
+given-joined (suc k) all s t h e = by (seen s) (λ n g f. given-joined k all (drop n s) t g f)
+  where
+    by : Seen s
+        → ((n : ℕ) → length (drop n s) < k → givenOf false (drop n s) .ended ≡ false
+        → givenOf all (drop n s ++ t) ≡ joined (givenOf false (drop n s) .portions) (givenOf all (leftOf false (drop n s) ++ t)))
+        → givenOf all (s ++ t) ≡ joined (givenOf false s .portions) (givenOf all (leftOf false s ++ t))
+    by (waits p short) more = rw (given-nothing false s p, left-nothing false s p)
+    by (command n short long p) more =
+        let now = given-command false s n (alone s false p) in
+        let left : length (drop n s) ≡ length s - n = length-drop n s in
+        let rest = more n (omega (arith, left)) (rw now at e) in
+        given-command all (s ++ t) n (p all t)
+        ∙ rw (take-append-le n s t long, drop-append-le n s t long, rest, now, left-command false s n (alone s false p))
+    by (no-code some p) more = absurd (false≢true (sym (rw (given-last false s 1 (alone s false p)) at e)))
+
+-- ---- the promises
+
+data Ways (all : Bool) (s : List ℕ) : Type 0 where
+  nothing : nextPortion all s ≡ Portion.Nothing → Ways all s
+  command : (n : ℕ) → nextPortion all s ≡ Portion.Command n → Ways all s
+  last : (n : ℕ) → n ≤ length s → nextPortion all s ≡ Portion.Last n → Ways all s
+
+ways : (all : Bool) (s : List ℕ) → Ways all s
+unfolding nextPortion portionAt
+ways all s = by (nextCommand s) refl all
+  where
+    by : (n : Next) → nextCommand s ≡ n → (all : Bool) → Ways all s
+    by Next.End e all = nothing (rw e)
+    by Next.NoCode e all = last 1 (no-code-first s e .0) (rw e)
+    by Next.Short e true = last (length s) (omega arith) (rw e)
+    by Next.Short e false = nothing (rw e)
+    by (Next.Command n) e all = command n (rw e)
+
+lost-within : (k : ℕ) (all : Bool) (s : List ℕ) → length s < k → flatten (givenOf all s .portions) ++ leftOf all s ≡ s
+unfolding flatten leftOf
+lost-within zero all s h = absurd (omega (arith, h))
+lost-within (suc k) all s h = by (ways all s) (λ n g. lost-within k all (drop n s) g)
+  where
+    by : Ways all s
+        → ((n : ℕ) → length (drop n s) < k → flatten (givenOf all (drop n s) .portions) ++ leftOf all (drop n s) ≡ drop n s)
+        → flatten (givenOf all s .portions) ++ leftOf all s ≡ s
+    by (nothing e) more = rw (given-nothing all s e)
+    by (command n e) more =
+        let left : length (drop n s) ≡ length s - n = length-drop n s in
+        let (short, long) = portion-within all s n e in
+        rw (left-command all s n e, given-command all s n e, append-assoc, more n (omega (arith, left)), take-append-drop)
+    by (last n long e) more = rw (given-last all s n e, append-nil (take n s), length-take-le n s long, take-append-drop n s)
+
+pub nothing-lost : NothingLost
+nothing-lost all s = lost-within (suc (length s)) all s (omega arith)
+
+-- so many bytes are given
+pub given-bytes : (all : Bool) (s : List ℕ) → length (flatten (givenOf all s .portions)) ≤ length s
+given-bytes all s =
+    let whole = ap length (nothing-lost all s) in
+    let parts = length-append (flatten (givenOf all s .portions)) (leftOf all s) in omega (arith, whole, parts)
+
+waits-within : (k : ℕ) (s : List ℕ) → length s < k → givenOf false s .ended ≡ false → length (leftOf false s) < longest
+waits-within zero s h e = absurd (omega (arith, h))
+waits-within (suc k) s h e = by (seen s) (λ n g f. waits-within k (drop n s) g f)
+  where
+    by : Seen s
+        → ((n : ℕ) → length (drop n s) < k → givenOf false (drop n s) .ended ≡ false → length (leftOf false (drop n s)) < longest)
+        → length (leftOf false s) < longest
+    by (waits p short) more = rw (left-nothing false s p) short
+    by (command n short long p) more =
+        let now = alone s false p in
+        let left : length (drop n s) ≡ length s - n = length-drop n s in
+        rw (left-command false s n now) (more n (omega (arith, left)) (rw (given-command false s n now) at e))
+    by (no-code some p) more = absurd (false≢true (sym (rw (given-last false s 1 (alone s false p)) at e)))
+
+pub waits-short : WaitsShort
+waits-short s e = waits-within (suc (length s)) s (omega arith) e
+
+portion-empty : (all : Bool) → nextPortion all [] ≡ Portion.Nothing
+unfolding nextPortion portionAt nextCommand
+portion-empty all = refl
+
+pub empty-ends : EmptyEnds
+empty-ends all = given-nothing all [] (portion-empty all)
+
+-- where no bytes come later, the stream ends
+all-within : (k : ℕ) (s : List ℕ) → length s < k → givenOf true s .ended ≡ true
+all-within zero s h = absurd (omega (arith, h))
+all-within (suc k) s h = by (ways true s) (λ n g. all-within k (drop n s) g)
+  where
+    by : Ways true s → ((n : ℕ) → length (drop n s) < k → givenOf true (drop n s) .ended ≡ true) → givenOf true s .ended ≡ true
+    by (nothing e) more = rw (given-nothing true s e)
+    by (command n e) more =
+        let left : length (drop n s) ≡ length s - n = length-drop n s in
+        let (short, long) = portion-within true s n e in
+        rw (given-command true s n e) (more n (omega (arith, left)))
+    by (last n long e) more = rw (given-last true s n e)
+
+pub all-ended : (s : List ℕ) → givenOf true s .ended ≡ true
+all-ended s = all-within (suc (length s)) s (omega arith)
+
+flatten-joined : (ps qs : List (List ℕ)) → flatten (ps ++ qs) ≡ flatten ps ++ flatten qs
+unfolding flatten
+flatten-joined [] qs = refl
+flatten-joined (p ∷ ps) qs = rw (flatten-joined ps qs, append-assoc)
+
+-- the bytes that are not given, before and after a read
+pub left-joined : (all : Bool) (s t : List ℕ) → givenOf false s .ended ≡ false → leftOf all (s ++ t) ≡ leftOf all (leftOf false s ++ t)
+unfolding leftOf
+left-joined all s t e =
+    let ps = givenOf false s .portions in
+    let qs = givenOf all (leftOf false s ++ t) .portions in
+    let counted : length (flatten (ps ++ qs)) ≡ length (flatten ps) + length (flatten qs) =
+    ap length (flatten-joined ps qs) ∙ length-append (flatten ps) (flatten qs) in
+    let before : drop (length (flatten ps)) (s ++ t) ≡ leftOf false s ++ t = drop-append-le (length (flatten ps)) s t (given-bytes false s) in
+    rw (given-joined (suc (length s)) all s t (omega arith) e, counted)
+    (sym (drop-drop (length (flatten qs)) (length (flatten ps)) (s ++ t)) ∙ ap (drop (length (flatten qs))) before)
