@@ -1,14 +1,12 @@
 -- The line of an answer (01, after "Figures to check"): "prints, a line each, the answer and, if accepted or again, a space and the
 -- report in 28 capital hex digits".
-use Prim.Native.Nat.{ℕ, _+_, _-_, _*_, _/_, _%_}
+use Prim.Native.Nat.{ℕ, _+_, _*_, _/_, _%_}
 use mathlib.Core.Bool.{cond}
 use mathlib.Core.List.{List, [], _∷_, _++_}
 use lib.Dec.{ltb}
-use lib.ListN.{length, replicate}
 use Rattle.wire.specs.Form.{reportLength}
 use Rattle.rules.specs.Numbers.{answerNumber, isAnswered}
 use Rattle.rules.specs.declared.Answer.{Answer}
-use Rattle.line.specs.declared.Line.{Line}
 
 -- a digit up to 15 in ASCII: 0 to 9, then capital A to F
 abbrev pub digitOf : ℕ → ℕ
@@ -45,6 +43,6 @@ lineOf answer report =
 abbrev pub lineWidth : ℕ
 lineWidth = 3 + reportWidth + 1
 
--- a line of this text, with 0 after its end
-abbrev pub filled : List ℕ → Line
-filled text = record { bytes = text ++ replicate (lineWidth - length text) 0; length = length text }
+-- the line where there are so many bytes of room, and none where the longest would not have room
+unfoldable pub lineIn : ℕ → Answer → List ℕ → List ℕ
+lineIn room answer report = cond (ltb room lineWidth) [] (lineOf answer report)

@@ -4,8 +4,9 @@ ghost use mathlib.Core.Bool.{cond};
 ghost use mathlib.Core.List.{_∷_, [], _++_};
 ghost use Prim.Native.Nat.{_+_, _<_, _≤_};
 ghost use lib.ListN.{length, take, drop};
+ghost use Rattle.wire.specs.Bytes.{placed};
 ghost use Rattle.rules.specs.Numbers.{isAnswered};
-ghost use Rattle.line.specs.Lines.{digitOf, decimalOf, hexOf, space, reportWidth, lineOf, filled};
+ghost use Rattle.line.specs.Lines.{digitOf, decimalOf, hexOf, space, reportWidth, lineIn};
 use rules::Answer;
 use wire::REPORT_LENGTH;
 
@@ -14,12 +15,6 @@ const REPORT_WIDTH: usize = 1 + 2 * REPORT_LENGTH;
 
 // The most bytes that a line has: three digits, a report, a line feed.
 pub const WIDTH: usize = 3 + REPORT_WIDTH + 1;
-
-// A line: the first `length` of the bytes are its own, the others 0.
-pub struct Line {
-    pub bytes: [u8; WIDTH],
-    pub length: usize,
-}
 
 fn digit(x: u8) -> u8
     requires { ⌜ x < 16 ⌝ }
@@ -80,16 +75,17 @@ fn put_answered(bytes: &mut [u8], at: usize, answer: Answer, report: [u8; REPORT
     at
 }
 
-// The line of an answer; the report is read only where the answer has one.
-pub fn line_of(answer: Answer, report: [u8; REPORT_LENGTH]) -> Line
-    ensures { λ r. ⌜ r ≡ filled (lineOf answer report) ⌝ }
+// Writes the line of an answer at the front, where there is room for any line, and tells how many bytes it has. The report is
+// read only where the answer has one.
+pub fn put_line(bytes: &mut [u8], answer: Answer, report: [u8; REPORT_LENGTH]) -> usize
+    ensures { λ r. ⌜ r ≡ length (lineIn (length (now (bytes .entry))) answer report) ⌝ }
+    ensures { λ _. ⌜ now (bytes .exit) ≡ placed (lineIn (length (now (bytes .entry))) answer report) (now (bytes .entry)) ⌝ }
 {
-    let mut bytes = [0; WIDTH];
-    let number = put_number(&mut bytes, unit::answer_number(answer));
-    let end = put_answered(&mut bytes, number, answer, report);
-    bytes[end] = b'\n';
-    Line {
-        bytes,
-        length: end + 1,
+    if bytes.len() < WIDTH {
+        return 0;
     }
+    let number = put_number(bytes, unit::answer_number(answer));
+    let end = put_answered(bytes, number, answer, report);
+    bytes[end] = b'\n';
+    end + 1
 }

@@ -1,15 +1,11 @@
--- The marked figures and the example stream of 01 hold, by computation.
+-- The marked figures of 01 hold, by computation.
 use mathlib.Core.Path.{refl}
 use lib.Ieee.{eq}
 use Rattle.pressure.specs.Figures.{pressureFigures}
 use Rattle.curve.specs.Figures.{curveFigures}
-use Rattle.rules.specs.Figures.{unitAt100, writtenAfter, speedFigures, stopFigures, figures, FiguresHold, ExampleHolds}
+use Rattle.rules.specs.Figures.{unitAt100, writtenAfter, speedFigures, stopFigures, figures, FiguresHold}
 use Rattle.rules.proofs.Computing.{computing}
 
 pub figures-hold : FiguresHold
 unfolding computing figures curveFigures speedFigures pressureFigures stopFigures writtenAfter unitAt100 eq
 figures-hold = refl
-
-pub example-holds : ExampleHolds
-unfolding computing
-example-holds = refl

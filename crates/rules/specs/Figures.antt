@@ -1,27 +1,21 @@
--- 01, "Figures to check": the marked figures as one table of tests, and the example stream. Proved in proofs/.
+-- 01, "Figures to check": the marked figures as one table of tests. Proved in proofs/.
 use mathlib.Core.Path.{_≡_}
 use Prim.Native.Nat.{ℕ, zero, suc}
-use mathlib.Core.Bool.{Bool, true, cond, _&&_}
-use mathlib.Core.List.{List, [], _∷_, _++_, map, foldr}
+use mathlib.Core.Bool.{Bool, true, _&&_}
+use mathlib.Core.List.{List, [], _∷_, _++_, foldr}
 use lib.Dec.{eqb}
-use lib.ListN.{replicate}
-use Rattle.wire.specs.Form.{reportLength}
 use Rattle.pressure.specs.Figures.{pressureFigures}
 use Rattle.curve.specs.Figures.{curveFigures}
-use Rattle.rules.specs.Numbers.{answerNumber, codeNumber, stateNumber, isRefused}
+use Rattle.rules.specs.Numbers.{codeNumber, stateNumber}
 use Rattle.rules.specs.Reports.{two}
 use Rattle.rules.specs.Commands.{freshStm}
-use Rattle.rules.specs.Runs.{Sent, Moment, momentOf, moments, stateAtEnd}
+use Rattle.rules.specs.Runs.{Sent, send, momentOf, stateAtEnd}
 use Rattle.rules.specs.History.{orderIn, causesIn, offeredIn}
 use Rattle.rules.specs.declared.Code.{Code}
 use Rattle.rules.specs.declared.State.{State}
 use Rattle.rules.specs.declared.Stm.{Stm}
 
 -- ---- commands as bytes
-
--- a command, with an area in which no report stands yet
-abbrev pub send : List ℕ → Sent
-send command = record { command = command; area = replicate reportLength 255 }
 
 -- "One code byte, a four-byte number, operands", the number below 65,536
 abbrev pub numbered : Code → ℕ → List ℕ → Sent
@@ -93,39 +87,3 @@ figures = curveFigures ++ speedFigures ++ pressureFigures ++ stopFigures
 
 abbrev pub FiguresHold : Type 0
 FiguresHold = foldr _&&_ true figures ≡ true
-
--- ---- the example stream
-
--- "prints, a line each, the answer and, if accepted or again, a space and the report"
-pub record Printed : Type 0 where
-  pub answer : ℕ
-  pub report : List ℕ
-
-abbrev pub printed : ℕ → List ℕ → Printed
-printed answer report = record { answer = answer; report = report }
-
-abbrev pub printedAt : Moment → Printed
-printedAt m = printed (answerNumber (m .answer)) (cond (isRefused (m .answer)) [] (m .area))
-
--- "Input 01 00000001 00 00A0 0190 02BC 01F4 1E 14 14 1E 0A 0F 32 017C 0D, then 02 00000002 01 twice, 02 00000003 03, 7F"
-abbrev pub exampleStream : List Sent
-exampleStream =
-    startOf 0x00A0 0x02BC 0x1E 0x0D
-    ∷ numbered Code.ChangeState 2 (0x01 ∷ [])
-    ∷ numbered Code.ChangeState 2 (0x01 ∷ [])
-    ∷ numbered Code.ChangeState 3 (0x03 ∷ [])
-    ∷ send (0x7F ∷ [])
-    ∷ []
-
--- "0 0000000000000000FF0000000000", "0 0100000000000000FF0000000000", "100 0100000000000000FF0000000000", "10", "3"
-abbrev pub exampleLines : List Printed
-exampleLines =
-    printed 0 (0x00 ∷ 0x00 ∷ 0x00 ∷ 0x00 ∷ 0x00 ∷ 0x00 ∷ 0x00 ∷ 0x00 ∷ 0xFF ∷ 0x00 ∷ 0x00 ∷ 0x00 ∷ 0x00 ∷ 0x00 ∷ [])
-    ∷ printed 0 (0x01 ∷ 0x00 ∷ 0x00 ∷ 0x00 ∷ 0x00 ∷ 0x00 ∷ 0x00 ∷ 0x00 ∷ 0xFF ∷ 0x00 ∷ 0x00 ∷ 0x00 ∷ 0x00 ∷ 0x00 ∷ [])
-    ∷ printed 100 (0x01 ∷ 0x00 ∷ 0x00 ∷ 0x00 ∷ 0x00 ∷ 0x00 ∷ 0x00 ∷ 0x00 ∷ 0xFF ∷ 0x00 ∷ 0x00 ∷ 0x00 ∷ 0x00 ∷ 0x00 ∷ [])
-    ∷ printed 10 []
-    ∷ printed 3 []
-    ∷ []
-
-abbrev pub ExampleHolds : Type 0
-ExampleHolds = map printedAt (moments freshStm exampleStream) ≡ exampleLines

@@ -2,9 +2,9 @@
 use Prim.Native.Nat.{ℕ}
 use mathlib.Core.Bool.{Bool, true, not, _&&_, _||_}
 use mathlib.Core.List.{List, [], _∷_}
-use lib.ListN.{length}
+use lib.ListN.{length, replicate}
 use Rattle.wire.specs.Numbers.{byteAt}
-use Rattle.wire.specs.Form.{operandsOf}
+use Rattle.wire.specs.Form.{reportLength, operandsOf}
 use Rattle.rules.specs.Numbers.{isAccepted, codeOf, stateOf, isCode, isState}
 use Rattle.rules.specs.Operands.{codeByte}
 use Rattle.rules.specs.Calls.{callOf, areaOf}
@@ -17,6 +17,10 @@ use Rattle.rules.specs.declared.Stm.{Stm}
 pub record Sent : Type 0 where
   pub command : List ℕ
   pub area : List ℕ
+
+-- a command, with an area in which no report stands yet
+abbrev pub send : List ℕ → Sent
+send command = record { command = command; area = replicate reportLength 255 }
 
 -- what there is after it: the answer, what the area holds, and the state
 pub record Moment : Type 0 where

@@ -26,10 +26,9 @@ use Rattle.rules.specs.Table.{causesFor, orderOf}
 use Rattle.rules.specs.Shows.{barOf, modeOf}
 use Rattle.rules.specs.Reports.{two, causesNumber}
 use Rattle.rules.specs.Commands.{freshStm}
-use Rattle.rules.specs.Runs.{Sent, momentOf, answerTo, stateAfter}
+use Rattle.rules.specs.Runs.{send, Sent, momentOf, answerTo, stateAfter}
 use Rattle.rules.specs.History.{stateIn, curveAt, sectionAt}
 use Rattle.rules.specs.Written.{Strength, strengths}
-use Rattle.rules.specs.Figures.{send}
 use Rattle.rules.specs.declared.Answer.{Answer}
 use Rattle.rules.specs.declared.Code.{Code}
 use Rattle.rules.specs.declared.State.{State}

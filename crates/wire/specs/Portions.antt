@@ -18,10 +18,16 @@ portionAt all left (Next.Command n) = Portion.Command n
 unfoldable pub nextPortion : Bool → List ℕ → Portion
 nextPortion all rest = portionAt all (length rest) (nextCommand rest)
 
+-- how many bytes it has, and whether the stream ends with it
 abbrev pub portionLength : Portion → ℕ
 portionLength Portion.Nothing = 0
 portionLength (Portion.Command n) = n
 portionLength (Portion.Last n) = n
+
+abbrev pub isLast : Portion → Bool
+isLast Portion.Nothing = false
+isLast (Portion.Command n) = false
+isLast (Portion.Last n) = true
 
 -- what is given of the bytes at hand, and whether the stream has ended with it
 pub record Given : Type 0 where

@@ -32,6 +32,8 @@ pub use numbers::low;
 pub use numbers::signed8;
 pub use numbers::signed16;
 pub use portions::Portion;
+pub use portions::is_last;
 pub use portions::next_portion;
+pub use portions::portion_length;
 pub use split::Next;
 pub use split::next_command;

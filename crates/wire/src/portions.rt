@@ -1,6 +1,6 @@
 // The portions of a stream: the bytes that the unit is given, a call each.
 ghost use mathlib.Core.Path.{_≡_};
-ghost use Rattle.wire.specs.Portions.{nextPortion};
+ghost use Rattle.wire.specs.Portions.{nextPortion, portionLength, isLast};
 use crate::split::Next;
 use crate::split::next_command;
 
@@ -28,5 +28,26 @@ pub fn next_portion(rest: &[u8], all: bool) -> Portion
             }
         }
         Next::Command(n) => Portion::Command(n),
+    }
+}
+
+pub fn portion_length(portion: Portion) -> usize
+    ensures { λ r. ⌜ r ≡ portionLength portion ⌝ }
+{
+    match portion {
+        Portion::Nothing => 0,
+        Portion::Command(n) => n,
+        Portion::Last(n) => n,
+    }
+}
+
+// The stream ends with it.
+pub fn is_last(portion: Portion) -> bool
+    ensures { λ r. ⌜ r ≡ isLast portion ⌝ }
+{
+    match portion {
+        Portion::Nothing => false,
+        Portion::Command(_) => false,
+        Portion::Last(_) => true,
     }
 }
