@@ -10,25 +10,25 @@ use Rattle.wire.specs.declared.portions.Portion.{Portion}
 use Rattle.wire.specs.declared.split.Next.{Next}
 use Rattle.wire.specs.Claims.{NothingLost, EmptyEnds, WaitsShort}
 use Rattle.wire.specs.Codes.{shortest, longest}
-use Rattle.wire.specs.Portions.{portionAt, nextPortion, portionLength, Given, given, givenBy, givenWithin, givenOf, leftOf}
+use Rattle.wire.specs.Portions.{portionAt, nextPortion, portionLength, isLast, Given, given, givenBy, givenWithin, givenOf, leftOf}
 use Rattle.wire.specs.Split.{nextCommand}
 use Rattle.laws.proofs.Lists.{never}
 use Rattle.wire.proofs.Commands.{command-stays, no-code-first, no-code-stays, short-length, end-length, command-length}
 
 -- ---- the next portion
 
-portion-command : (all : Bool) (left : ℕ) (m : Next) (n : ℕ) → portionAt all left m ≡ Portion.Command n → m ≡ Next.Command n
+command-at : (all : Bool) (left : ℕ) (m : Next) (n : ℕ) → portionAt all left m ≡ Portion.Command n → m ≡ Next.Command n
 unfolding portionAt
-portion-command all left Next.End n e = absurd (never (cc))
-portion-command all left Next.NoCode n e = absurd (never (cc))
-portion-command true left Next.Short n e = absurd (never (cc))
-portion-command false left Next.Short n e = absurd (never (cc))
-portion-command all left (Next.Command k) n e = ap Next.Command (cc e)
+command-at all left Next.End n e = absurd (never (cc))
+command-at all left Next.NoCode n e = absurd (never (cc))
+command-at true left Next.Short n e = absurd (never (cc))
+command-at false left Next.Short n e = absurd (never (cc))
+command-at all left (Next.Command k) n e = ap Next.Command (cc e)
 
 -- a portion that is a command is the next one, and has its length
 pub portion-next : (all : Bool) (s : List ℕ) (n : ℕ) → nextPortion all s ≡ Portion.Command n → nextCommand s ≡ Next.Command n
 unfolding nextPortion
-portion-next all s n e = portion-command all (length s) (nextCommand s) n e
+portion-next all s n e = command-at all (length s) (nextCommand s) n e
 
 portion-within : (all : Bool) (s : List ℕ) (n : ℕ) → nextPortion all s ≡ Portion.Command n → (shortest ≤ n) × (n ≤ length s)
 portion-within all s n e = command-length s n (portion-next all s n e)
@@ -170,6 +170,51 @@ ways all s = by (nextCommand s) refl all
     by Next.Short e true = last (length s) (omega arith) (rw e)
     by Next.Short e false = nothing (rw e)
     by (Next.Command n) e all = command n (rw e)
+
+-- a portion by its length and whether it is the last
+some-bytes : (all : Bool) (s : List ℕ) (n : ℕ) → nextPortion all s ≡ Portion.Last n → 1 ≤ n
+unfolding nextPortion portionAt
+some-bytes all s n e = by (nextCommand s) refl all e
+  where
+    by : (m : Next) → nextCommand s ≡ m → (all : Bool) → portionAt all (length s) m ≡ Portion.Last n → 1 ≤ n
+    by Next.End f all e = absurd (never (cc))
+    by Next.NoCode f all e = let one : 1 ≡ n = cc e in omega (arith, one)
+    by Next.Short f true e = let whole : length s ≡ n = cc e in omega (arith, whole, short-length s f .0)
+    by Next.Short f false e = absurd (never (cc))
+    by (Next.Command k) f all e = absurd (never (cc))
+
+pub portion-fits : (all : Bool) (s : List ℕ) → portionLength (nextPortion all s) ≤ length s
+portion-fits all s = by (ways all s)
+  where
+    by : Ways all s → portionLength (nextPortion all s) ≤ length s
+    by (nothing e) = rw e (omega arith)
+    by (command n e) = rw e (portion-within all s n e .1)
+    by (last n long e) = rw e long
+
+pub portion-nothing : (all : Bool) (s : List ℕ) → portionLength (nextPortion all s) ≡ 0 → nextPortion all s ≡ Portion.Nothing
+portion-nothing all s z = by (ways all s)
+  where
+    by : Ways all s → nextPortion all s ≡ Portion.Nothing
+    by (nothing e) = e
+    by (command n e) = let zero : n ≡ 0 = rw e at z in let h = portion-within all s n e .0 in absurd (omega (arith, zero, h))
+    by (last n long e) = let zero : n ≡ 0 = rw e at z in let h = some-bytes all s n e in absurd (omega (arith, zero, h))
+
+pub portion-command : (all : Bool) (s : List ℕ) → (portionLength (nextPortion all s) ≡ 0 → ⊥) → isLast (nextPortion all s) ≡ false
+    → nextPortion all s ≡ Portion.Command (portionLength (nextPortion all s))
+portion-command all s some more = by (ways all s)
+  where
+    by : Ways all s → nextPortion all s ≡ Portion.Command (portionLength (nextPortion all s))
+    by (nothing e) = absurd (some (rw e))
+    by (command n e) = rw e
+    by (last n long e) = absurd (false≢true (sym (rw e at more)))
+
+pub portion-last : (all : Bool) (s : List ℕ) → isLast (nextPortion all s) ≡ true → nextPortion all s ≡ Portion.Last (portionLength (nextPortion all s))
+portion-last all s end = by (ways all s)
+  where
+    by : Ways all s → nextPortion all s ≡ Portion.Last (portionLength (nextPortion all s))
+    by (nothing e) = absurd (false≢true (rw e at end))
+    by (command n e) = absurd (false≢true (rw e at end))
+    by (last n long e) = rw e
 
 lost-within : (k : ℕ) (all : Bool) (s : List ℕ) → length s < k → flatten (givenOf all s .portions) ++ leftOf all s ≡ s
 unfolding flatten leftOf
