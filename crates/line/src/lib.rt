@@ -6,7 +6,7 @@ ghost use Prim.Native.Nat.{_+_, _<_, _≤_};
 ghost use lib.ListN.{length, take, drop};
 ghost use Rattle.wire.specs.Bytes.{placed};
 ghost use Rattle.rules.specs.Numbers.{isAnswered};
-ghost use Rattle.line.specs.Lines.{digitOf, decimalOf, hexOf, space, reportWidth, lineIn};
+ghost use Rattle.line.specs.Lines.{digitOf, decimalOf, hexOf, space, reportWidth, lineWidth, lineIn};
 use rules::Answer;
 use wire::REPORT_LENGTH;
 
@@ -79,6 +79,7 @@ fn put_answered(bytes: &mut [u8], at: usize, answer: Answer, report: [u8; REPORT
 // read only where the answer has one.
 pub fn put_line(bytes: &mut [u8], answer: Answer, report: [u8; REPORT_LENGTH]) -> usize
     ensures { λ r. ⌜ r ≡ length (lineIn (length (now (bytes .entry))) answer report) ⌝ }
+    ensures { λ r. ⌜ r ≤ lineWidth ⌝ }
     ensures { λ _. ⌜ now (bytes .exit) ≡ placed (lineIn (length (now (bytes .entry))) answer report) (now (bytes .entry)) ⌝ }
 {
     if bytes.len() < WIDTH {

@@ -2,12 +2,14 @@
 //
 // No public function has a `requires`: each is defined at every state, at every bytes and at every room.
 ghost use mathlib.Core.Path.{_≡_};
+ghost use Prim.Native.Nat.{_≤_};
 ghost use lib.Dec.{eqb};
 ghost use lib.ListN.{length, take};
 ghost use Rattle.wire.specs.Bytes.{placed};
 ghost use Rattle.wire.specs.Portions.{givenOf};
 ghost use Rattle.wire.specs.Reads.{textBy};
 ghost use Rattle.rules.specs.Runs.{stateAfter, send};
+ghost use Rattle.line.specs.Lines.{lineWidth};
 ghost use Rattle.output.specs.Streams.{lines, lineTold, handedOn, givenIn};
 use rules::Stm;
 use wire::REPORT_LENGTH;
@@ -37,6 +39,7 @@ struct Told {
 fn tell(stm: Stm, portion: &[u8], room: &mut [u8]) -> Told
     ensures { λ r. ⌜ r .stm ≡ stateAfter stm (send (now (portion .entry))) ⌝ }
     ensures { λ r. ⌜ r .written ≡ length (lineTold (length (now (room .entry))) stm (now (portion .entry))) ⌝ }
+    ensures { λ r. ⌜ r .written ≤ lineWidth ⌝ }
     ensures { λ _. ⌜ now (room .exit) ≡ placed (lineTold (length (now (room .entry))) stm (now (portion .entry))) (now (room .entry)) ⌝ }
 {
     let mut report = [255u8; REPORT_LENGTH];

@@ -16,7 +16,7 @@ use Rattle.line.proofs.put_line.Tie as tie
 
 returns : tie.Need-returns
 unfolding lineIn placed
-returns c = rw (lt-ltb _ _ (c .if1 .taken)) (refl, refl)
+returns c = rw (lt-ltb _ _ (c .if1 .taken)) (refl, (omega arith, refl))
 
 answer-number-requires : tie.Need-answer-number-requires
 answer-number-requires c κs = search needs
@@ -62,7 +62,7 @@ returns-2 c =
     let long : at ≡ length (lineOf (a .answer) (a .report)) =
     sym (length-take-le at bytes (simp length-set (omega (arith, room)))) ∙ ap length text in
     let whole = sym (take-append-drop at bytes) ∙ ap₂ _++_ text (behind ∙ ap (λ k. drop k area) long) in
-    rw (le-ltb (length area) lineWidth wide) (long, whole)
+    rw (le-ltb (length area) lineWidth wide) (long, (omega (arith, end .ensures .0), whole))
 
 pub put-line-spec : {M : Type 1} → statement M
 put-line-spec =

@@ -1,109 +1,187 @@
+-- `output::hand_on` meets its contract. The loop's invariant: what is handed on and what is ahead make up the whole, the lines so far
+-- stand at the front of the output, and behind them is room for as many of the longest as may still come.
+use Prim.Native.Nat.{_+_, _-_, _*_, _≤_, suc}
+use mathlib.Core.Path.{_≡_, refl, sym, ap, _∙_}
+use mathlib.Core.Bool.{true, false}
+use native.Mathlib.Nat.{sub-zero}
+use native.Mathlib.Omega.{arith}
+use denote.Ref.{now}
+use lib.ListN.{length, take, drop}
+use lib.Seq.{length-take-le}
+use borrow.Author.Needs.{needs}
+use Rattle.wire.specs.Portions.{portionLength, givenWithin}
+use Rattle.wire.proofs.Giving.{portion-fits}
+use Rattle.wire.proofs.Handing.{Ahead, ahead-first}
+use Rattle.line.specs.Lines.{lineWidth}
+use Rattle.output.specs.Streams.{lines, givenIn}
+use Rattle.output.proofs.Turns.{all-handed, none-more, fits, nothing, told-room, told-within, same-after, behind-after, goes-on, ends}
 use Rattle.output.proofs.hand_on.Statement.{statement}
 use Rattle.output.proofs.hand_on.Tie as tie
-use Rattle.output.proofs.hand_on.Reads as reads
-use Rattle.output.proofs.hand_on.Lts as lts
-use Rattle.output.proofs.tell.Reads as tell-reads
-use Rattle.wire.proofs.is_last.Reads as is-last-reads
-use Rattle.wire.proofs.next_portion.Reads as next-portion-reads
-use Rattle.wire.proofs.portion_length.Reads as portion-length-reads
 
 abbrev Inv-loop : tie.InvT-loop
-Inv-loop bytes all output₀ most stm₀ used₀ written₀ i₀ output stm used written i = ?
+Inv-loop bytes all output₀ most stm₀ used₀ written₀ i₀ output stm used written i =
+    (i ≤ most)
+    × (used ≤ length bytes)
+    × (length output ≡ length output₀)
+    × (written + (most - i) * lineWidth ≤ length output₀)
+    × (drop written output ≡ drop written output₀)
+    × Ahead lines stm₀ (givenIn (length output₀) all bytes) stm used (take written output) (givenWithin (most - i) all (drop used bytes))
 
 abbrev μ-loop : tie.MeasureT-loop
-μ-loop bytes all output₀ most stm₀ used₀ written₀ i₀ output stm used written i = ?
+μ-loop bytes all output₀ most stm₀ used₀ written₀ i₀ output stm used written i = most - i
 
--- src/lib.rt:61:5
 loop-holds : tie.Need-loop-holds Inv-loop μ-loop
-loop-holds c = ?
+loop-holds c =
+    let a = c .before .before .args in
+    let whole = givenIn (length (now (a .output))) (a .all) (now (a .bytes)) in
+    (omega arith, omega arith, refl, omega arith, refl, rw sub-zero (ahead-first lines (a .stm) whole))
 
--- src/lib.rt:62:20
 sub-rest : tie.Need-sub-rest Inv-loop μ-loop
-sub-rest c = ?
+sub-rest c = omega arith
 
--- src/lib.rt:62:20
 part-rest-start : tie.Need-part-rest-start Inv-loop μ-loop
-part-rest-start c = ?
+part-rest-start c = omega arith
 
--- src/lib.rt:62:20
 part-rest-end : tie.Need-part-rest-end Inv-loop μ-loop
-part-rest-end c = ?
+part-rest-end c = omega arith
 
--- src/lib.rt:63:13
 next-portion-requires : tie.Need-next-portion-requires Inv-loop μ-loop
-next-portion-requires c κs = ?
+next-portion-requires c κs = tt
 
--- src/lib.rt:64:13
 portion-length-requires : tie.Need-portion-length-requires Inv-loop μ-loop
-portion-length-requires c κs = ?
+portion-length-requires c κs = tt
 
--- src/lib.rt:66:13
 same-length : tie.Need-same-length Inv-loop μ-loop
-same-length c = ?
+same-length c = c .before .before .before .before .before .loop .inv .2
 
--- src/lib.rt:66:13
 returns : tie.Need-returns Inv-loop μ-loop
-returns c = ?
+returns c =
+    let o = c .before .before .before .before .before in
+    let v = o .loop .inv in
+    let a = o .before .before .before .args in
+    let zero = sym (c .before .portion-length .ensures ∙ ap portionLength (c .before .before .next-portion .ensures)) ∙ c .if1 .taken in
+    let ahead = nothing (now (a .bytes)) (now (a .output)) (o .loop .output) (a .all) _ (a .stm) (o .loop .stm) (o .loop .used) (o .loop .written) (o .loop .i) _
+    (omega arith) (v .1) (v .2) (v .3) (v .4) (v .5) zero in
+    all-handed (a .stm) (o .loop .stm) _ (o .loop .used) (o .loop .written) (now (a .output)) (o .loop .output) (a .all) ahead (omega arith) (v .4)
 
--- src/lib.rt:73:30
 slice-aggregate-tell : tie.Need-slice-aggregate-tell Inv-loop μ-loop
-slice-aggregate-tell c = ?
+slice-aggregate-tell c =
+    let o = c .before .before .before .before .before .before in
+    let a = o .before .before .before .args in
+    let lent = take (length (now (a .bytes)) - o .loop .used) (drop (o .loop .used) (now (a .bytes))) in
+    let n = c .before .before .portion-length .ensures ∙ ap portionLength (c .before .before .before .next-portion .ensures) in
+    sym (length-take-le _ lent (rw n (portion-fits (a .all) lent)))
 
--- src/lib.rt:73:42
 sub-tell : tie.Need-sub-tell Inv-loop μ-loop
-sub-tell c = ?
+sub-tell c = omega arith
 
--- src/lib.rt:73:42
 part-tell-start : tie.Need-part-tell-start Inv-loop μ-loop
-part-tell-start c = ?
+part-tell-start c = omega arith
 
--- src/lib.rt:73:42
 part-tell-end : tie.Need-part-tell-end Inv-loop μ-loop
-part-tell-end c = ?
+part-tell-end c = omega arith
 
--- src/lib.rt:73:13
 tell-requires : tie.Need-tell-requires Inv-loop μ-loop
-tell-requires c κs = ?
+tell-requires c κs = tt
 
--- src/lib.rt:75:9
 add-written : tie.Need-add-written Inv-loop μ-loop
-add-written c = ?
+add-written c =
+    let o = c .before .before .before .before .before .before .before .before .before .before .before .before in
+    let v = o .loop .inv in
+    omega (arith, c .before .before .before .before .tell .ensures .1 .1 .0, v .2, v .3, c .before .before .before .before .before .before .before .before .before .before .before .loop-test .taken, o .before .before .before .good)
 
--- src/lib.rt:76:9
 add-used : tie.Need-add-used Inv-loop μ-loop
-add-used c = ?
+add-used c =
+    let o = c .before .before .before .before .before .before .before .before .before .before .before .before in
+    let v = o .loop .inv in
+    let a = o .before .before .before .args in
+    let n = c .before .before .before .before .before .before .before .before .portion-length .ensures ∙ ap portionLength (c .before .before .before .before .before .before .before .before .before .next-portion .ensures) in
+    let inside = fits (now (a .bytes)) (now (a .output)) (o .loop .output) (a .all) _ (a .stm) (o .loop .stm) (o .loop .used) (o .loop .written) (o .loop .i) _
+    (c .before .before .before .before .before .before .before .before .before .before .before .loop-test .taken) (v .1) (v .2) (v .3) (v .4) (v .5) in
+    omega (arith, n, inside, o .before .before .before .good)
 
--- src/lib.rt:77:12
 is-last-requires : tie.Need-is-last-requires Inv-loop μ-loop
-is-last-requires c κs = ?
+is-last-requires c κs = tt
 
--- src/lib.rt:78:13
 same-length-2 : tie.Need-same-length-2 Inv-loop μ-loop
-same-length-2 c = ?
+same-length-2 c =
+    let o = c .before .before .before .before .before .before .before .before .before .before .before .before .before .before in
+    let v = o .loop .inv in
+    let a = o .before .before .before .args in
+    let tell = c .before .before .before .before .before .before .tell in
+    let which = c .before .before .before .before .before .before .before .before .before .before .before .next-portion .ensures in
+    let long = c .before .before .before .before .before .before .before .before .before .before .portion-length .ensures in
+    same-after (now (a .bytes)) (now (a .output)) (o .loop .output) (a .all) _ (a .stm) (o .loop .stm) (o .loop .used) (o .loop .written) (o .loop .i) _
+    (c .before .before .before .before .before .before .before .before .before .before .before .before .before .loop-test .taken) (v .1) (v .2) (v .3) (v .4) (v .5)
+    _ _ (tell .result .stm) (tell .result .written) (tell .last .1 .1 .0) which long (tell .ensures .0) (tell .ensures .1 .0) (tell .ensures .1 .1 .0) (tell .ensures .1 .1 .1)
 
--- src/lib.rt:78:13
 returns-2 : tie.Need-returns-2 Inv-loop μ-loop
-returns-2 c = ?
+returns-2 c =
+    let o = c .before .before .before .before .before .before .before .before .before .before .before .before .before .before in
+    let v = o .loop .inv in
+    let a = o .before .before .before .args in
+    let tell = c .before .before .before .before .before .before .tell in
+    let which = c .before .before .before .before .before .before .before .before .before .before .before .next-portion .ensures in
+    let long = c .before .before .before .before .before .before .before .before .before .before .portion-length .ensures in
+    let end = sym (c .before .is-last .ensures) ∙ c .if2 .taken in
+    all-handed (a .stm) (tell .result .stm) _ _ _ (now (a .output)) _ true
+    (ends (now (a .bytes)) (now (a .output)) (o .loop .output) (a .all) _ (a .stm) (o .loop .stm) (o .loop .used) (o .loop .written) (o .loop .i) _
+      (c .before .before .before .before .before .before .before .before .before .before .before .before .before .loop-test .taken) (v .1) (v .2) (v .3) (v .4) (v .5)
+    _ _ (tell .result .stm) (tell .result .written) (tell .last .1 .1 .0) which long (tell .ensures .0) (tell .ensures .1 .0) (tell .ensures .1 .1 .0) (tell .ensures .1 .1 .1) end)
+    (rw (same-after (now (a .bytes)) (now (a .output)) (o .loop .output) (a .all) _ (a .stm) (o .loop .stm) (o .loop .used) (o .loop .written) (o .loop .i) _
+      (c .before .before .before .before .before .before .before .before .before .before .before .before .before .loop-test .taken) (v .1) (v .2) (v .3) (v .4) (v .5)
+    _ _ (tell .result .stm) (tell .result .written) (tell .last .1 .1 .0) which long (tell .ensures .0) (tell .ensures .1 .0) (tell .ensures .1 .1 .0) (tell .ensures .1 .1 .1)) (rw (v .2) at (told-within (now (a .bytes)) (now (a .output)) (o .loop .output) (a .all) _ (a .stm) (o .loop .stm) (o .loop .used) (o .loop .written) (o .loop .i) _
+      (c .before .before .before .before .before .before .before .before .before .before .before .before .before .loop-test .taken) (v .1) (v .2) (v .3) (v .4) (v .5)
+    _ _ (tell .result .stm) (tell .result .written) (tell .last .1 .1 .0) which long (tell .ensures .0) (tell .ensures .1 .0) (tell .ensures .1 .1 .0) (tell .ensures .1 .1 .1))))
+    (behind-after (now (a .bytes)) (now (a .output)) (o .loop .output) (a .all) _ (a .stm) (o .loop .stm) (o .loop .used) (o .loop .written) (o .loop .i) _
+      (c .before .before .before .before .before .before .before .before .before .before .before .before .before .loop-test .taken) (v .1) (v .2) (v .3) (v .4) (v .5)
+    _ _ (tell .result .stm) (tell .result .written) (tell .last .1 .1 .0) which long (tell .ensures .0) (tell .ensures .1 .0) (tell .ensures .1 .1 .0) (tell .ensures .1 .1 .1))
 
--- src/lib.rt:85:9
 add-i : tie.Need-add-i Inv-loop μ-loop
-add-i c = ?
+add-i c = omega (arith, c .before .before .before .before .before .before .before .before .before .before .before .before .before .loop-test .taken, c .before .before .before .before .before .before .before .before .before .before .before .before .before .before .before .before .before .good)
 
--- src/lib.rt:61:5
 loop-less : tie.Need-loop-less Inv-loop μ-loop
-loop-less c = ?
+loop-less c = omega (arith, c .before .before .before .before .before .before .before .before .before .before .before .before .before .loop-test .taken)
 
--- src/lib.rt:61:5
 loop-again : tie.Need-loop-again Inv-loop μ-loop
-loop-again c = ?
+loop-again c =
+    let o = c .before .before .before .before .before .before .before .before .before .before .before .before .before .before in
+    let v = o .loop .inv in
+    let a = o .before .before .before .args in
+    let tell = c .before .before .before .before .before .before .tell in
+    let which = c .before .before .before .before .before .before .before .before .before .before .before .next-portion .ensures in
+    let long = c .before .before .before .before .before .before .before .before .before .before .portion-length .ensures in
+    let some = c .before .before .before .before .before .before .before .before .before .if1 .left in
+    let more = sym (c .before .is-last .ensures) ∙ c .if2 .left in
+    let inside = fits (now (a .bytes)) (now (a .output)) (o .loop .output) (a .all) _ (a .stm) (o .loop .stm) (o .loop .used) (o .loop .written) (o .loop .i) _
+      (c .before .before .before .before .before .before .before .before .before .before .before .before .before .loop-test .taken) (v .1) (v .2) (v .3) (v .4) (v .5) in
+    let n = long ∙ ap portionLength which in (
+      omega (arith, c .before .before .before .before .before .before .before .before .before .before .before .before .before .loop-test .taken),
+      omega (arith, n, inside),
+      same-after (now (a .bytes)) (now (a .output)) (o .loop .output) (a .all) _ (a .stm) (o .loop .stm) (o .loop .used) (o .loop .written) (o .loop .i) _
+      (c .before .before .before .before .before .before .before .before .before .before .before .before .before .loop-test .taken) (v .1) (v .2) (v .3) (v .4) (v .5)
+      _ _ (tell .result .stm) (tell .result .written) (tell .last .1 .1 .0) which long (tell .ensures .0) (tell .ensures .1 .0) (tell .ensures .1 .1 .0) (tell .ensures .1 .1 .1),
+      told-room (now (a .bytes)) (now (a .output)) (o .loop .output) (a .all) _ (a .stm) (o .loop .stm) (o .loop .used) (o .loop .written) (o .loop .i) _
+      (c .before .before .before .before .before .before .before .before .before .before .before .before .before .loop-test .taken) (v .1) (v .2) (v .3) (v .4) (v .5)
+      _ _ (tell .result .stm) (tell .result .written) (tell .last .1 .1 .0) which long (tell .ensures .0) (tell .ensures .1 .0) (tell .ensures .1 .1 .0) (tell .ensures .1 .1 .1),
+      behind-after (now (a .bytes)) (now (a .output)) (o .loop .output) (a .all) _ (a .stm) (o .loop .stm) (o .loop .used) (o .loop .written) (o .loop .i) _
+      (c .before .before .before .before .before .before .before .before .before .before .before .before .before .loop-test .taken) (v .1) (v .2) (v .3) (v .4) (v .5)
+      _ _ (tell .result .stm) (tell .result .written) (tell .last .1 .1 .0) which long (tell .ensures .0) (tell .ensures .1 .0) (tell .ensures .1 .1 .0) (tell .ensures .1 .1 .1),
+      goes-on (now (a .bytes)) (now (a .output)) (o .loop .output) (a .all) _ (a .stm) (o .loop .stm) (o .loop .used) (o .loop .written) (o .loop .i) _
+      (c .before .before .before .before .before .before .before .before .before .before .before .before .before .loop-test .taken) (v .1) (v .2) (v .3) (v .4) (v .5)
+      _ _ (tell .result .stm) (tell .result .written) (tell .last .1 .1 .0) which long (tell .ensures .0) (tell .ensures .1 .0) (tell .ensures .1 .1 .0) (tell .ensures .1 .1 .1) some more,
+    )
 
--- src/lib.rt:52:1
 same-length-3 : tie.Need-same-length-3 Inv-loop μ-loop
-same-length-3 c = ?
+same-length-3 c = c .before .loop .inv .2
 
--- src/lib.rt:52:1
 returns-3 : tie.Need-returns-3 Inv-loop μ-loop
-returns-3 c = ?
+returns-3 c =
+    let o = c .before in
+    let v = o .loop .inv in
+    let a = o .before .before .before .args in
+    all-handed (a .stm) (o .loop .stm) _ (o .loop .used) (o .loop .written) (now (a .output)) (o .loop .output) false
+    (none-more (a .stm) (o .loop .stm) _ (o .loop .used) _ _ (a .all) _ (omega arith) (v .5)) (omega arith) (v .4)
 
 pub hand-on-spec : {M : Type 1} → statement M
 hand-on-spec =

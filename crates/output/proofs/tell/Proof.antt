@@ -33,7 +33,7 @@ returns c =
     let area : called .last .1 .1 .0 ≡ m .area = called .ensures .1 .0 ∙ rw (called .ensures .0) in
     let told : lineIn room (called .result .answer) (called .last .1 .1 .0) ≡ lineTold room (a .stm) (now (a .portion)) = ap₂ (lineIn room) answer area in (
       ap (λ o. o .stm) (called .ensures .0),
-      (put .ensures .0 ∙ ap length told, put .ensures .1 ∙ ap (λ text. placed text (now (a .room))) told),
+      (put .ensures .0 ∙ ap length told, (put .ensures .1 .0, put .ensures .1 .1 ∙ ap (λ text. placed text (now (a .room))) told)),
     )
 
 pub tell-spec : {M : Type 1} → statement M
