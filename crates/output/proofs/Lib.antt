@@ -1,2 +1,4 @@
+pub mod Example
+pub mod Promises
 pub mod Rooms
 pub mod Turns

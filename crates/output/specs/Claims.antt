@@ -1,16 +1,16 @@
 -- What is promised of the stream program's output.
-use Prim.Native.Nat.{ℕ}
+use Prim.Native.Nat.{ℕ, _≤_}
 use mathlib.Core.Path.{_≡_}
 use mathlib.Core.Bool.{Bool, true, false, cond}
 use mathlib.Core.List.{List, [], _++_, map, flatMap, flatten}
-use lib.ListN.{take, drop}
+use lib.ListN.{length, take, drop}
 use Rattle.wire.specs.Bytes.{placed}
 use Rattle.wire.specs.Portions.{givenOf, portionsOf}
 use Rattle.wire.specs.Reads.{Standing, textBy, atFirst, turnOf, afterReads, afterEnd}
 use Rattle.rules.specs.Commands.{freshStm}
 use Rattle.rules.specs.Runs.{moments, send}
 use Rattle.rules.specs.declared.Stm.{Stm}
-use Rattle.output.specs.Streams.{lineAt, lines, streamOf, handedOn}
+use Rattle.output.specs.Streams.{lineAt, lines, streamOf, handedOn, givenIn, inputRoom, outputRoom}
 
 -- the output is a line for each moment of the run of the portions: all that is promised of runs holds of it
 abbrev pub LinesOfMoments : Type 0
@@ -41,3 +41,7 @@ TurnIsHanded =
       written = s .written ++ take (handed .written) (placed (textBy lines (s .state) (givenOf all bytes .portions)) room);
       ended = handed .ended;
     }
+
+-- there is room for the lines of all that can be given of the bytes at hand: none waits until more bytes come
+abbrev pub AllHasRoom : Type 0
+AllHasRoom = (all : Bool) (bytes : List ℕ) → length bytes ≤ inputRoom → givenIn outputRoom all bytes ≡ givenOf all bytes

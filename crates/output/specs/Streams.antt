@@ -1,8 +1,9 @@
 -- The output of the stream program for any input (01, after "Figures to check").
-use Prim.Native.Nat.{ℕ, _/_}
+use Prim.Native.Nat.{ℕ, _+_, _*_, _/_}
 use mathlib.Core.Bool.{Bool}
 use mathlib.Core.List.{List, flatten}
 use lib.ListN.{length}
+use Rattle.wire.specs.Codes.{shortest}
 use Rattle.wire.specs.Portions.{Given, givenWithin, portionsOf}
 use Rattle.wire.specs.Reads.{Writer, textBy, stateBy}
 use Rattle.rules.specs.Commands.{freshStm}
@@ -39,3 +40,10 @@ handedOn stm given = record {
 -- what is given of bytes where so many bytes of room are for the lines: as many portions as the longest lines have room for
 abbrev pub givenIn : ℕ → Bool → List ℕ → Given
 givenIn room all bytes = givenWithin (room / lineWidth) all bytes
+
+-- the bytes of input and of output that the program has room for
+abbrev pub inputRoom : ℕ
+inputRoom = 16384
+
+abbrev pub outputRoom : ℕ
+outputRoom = (inputRoom / shortest + 2) * lineWidth

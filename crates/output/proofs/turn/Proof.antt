@@ -1,22 +1,39 @@
+-- `output::turn` meets its contract: there is room for every line.
+use Prim.Native.Nat.{_≤_}
+use mathlib.Core.Path.{_≡_, ap, _∙_}
+use native.Mathlib.Omega.{arith}
+use denote.Ref.{now}
+use lib.Dec.{eqb}
+use lib.ListN.{length, take, length-take}
 use borrow.Author.Needs.{needs}
+use Rattle.wire.specs.Bytes.{placed}
+use Rattle.wire.specs.Portions.{givenOf}
+use Rattle.wire.specs.Reads.{textBy}
+use Rattle.output.specs.Streams.{lines, handedOn, givenIn, inputRoom, outputRoom}
+use Rattle.output.proofs.Promises.{all-has-room}
 use Rattle.output.proofs.turn.Statement.{statement}
 use Rattle.output.proofs.turn.Tie as tie
-use Rattle.output.proofs.turn.Reads as reads
-use Rattle.output.proofs.turn.Lts as lts
-use Rattle.output.proofs.hand_on.Reads as hand-on-reads
-use Rattle.wire.proofs.part.Reads as part-reads
 
--- src/lib.rt:109:18
 part-requires : tie.Need-part-requires
 part-requires c κs = search needs
 
--- src/lib.rt:109:5
 hand-on-requires : tie.Need-hand-on-requires
 hand-on-requires c κs = search needs
 
--- src/lib.rt:99:1
 returns : tie.Need-returns
-returns c = ?
+returns c =
+    let a = c .before .before .before .before .args in
+    let bytes = take (a .to) (now (a .input)) in
+    let all = eqb (a .to) (a .left) in
+    let input : length (now (a .input)) ≡ inputRoom = search needs in
+    let output : length (now (a .output)) ≡ outputRoom = search needs in
+    let long = length-take (a .to) (now (a .input)) in
+    let whole : givenIn (length (now (a .output))) all bytes ≡ givenOf all bytes =
+    rw output (all-has-room all bytes (omega (arith, input, long))) in
+    let part = c .before .before .part .ensures in (
+      c .hand-on .ensures .0 ∙ rw (part, whole),
+      c .hand-on .ensures .1 ∙ rw (part, whole),
+    )
 
 pub turn-spec : {M : Type 1} → statement M
 turn-spec = tie.close (tie.spec part-requires hand-on-requires returns)
