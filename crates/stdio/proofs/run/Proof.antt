@@ -1,61 +1,40 @@
--- `stdio::run` is safe and ends: the turns that are left fall. Nothing has to hold from turn to turn.
+-- `stdio::run` is safe and ends: the turns that are left fall. From turn to turn fewer bytes are left than the longest command has: so
+-- there is always room to read, and a read that brings none is the end.
+use Prim.Native.Nat.{_<_}
+use mathlib.Core.Path.{_≡_, refl, sym, ap, subst, _∙_}
+use mathlib.Core.Bool.{Bool, true, false, false≢true}
+use mathlib.Core.List.{List, flatten}
 use native.Mathlib.Omega.{arith}
+use lib.Dec.{eqb}
+use lib.ListN.{length, take, drop}
 use borrow.Author.Needs.{needs}
+use Rattle.wire.specs.Codes.{longest}
+use Rattle.wire.specs.Portions.{givenOf, leftOf}
+use Rattle.wire.proofs.Giving.{all-ended, waits-short}
+use Rattle.output.specs.Streams.{handedOn}
 use Rattle.stdio.proofs.run.Statement.{statement}
 use Rattle.stdio.proofs.run.Tie as tie
 
 abbrev Inv-loop : tie.InvT-loop
-Inv-loop input₀ output₀ report₀ stm₀ from₀ to₀ used₀ turns₀ input output report stm from to used turns =
-    Unit {0}
+Inv-loop input₀ lines₀ stm₀ left₀ turns₀ input lines stm left turns = left < longest
 
 abbrev μ-loop : tie.MeasureT-loop
-μ-loop input₀ output₀ report₀ stm₀ from₀ to₀ used₀ turns₀ input output report stm from to used turns =
-    turns
+μ-loop input₀ lines₀ stm₀ left₀ turns₀ input lines stm left turns = turns
 
 fresh-requires : tie.Need-fresh-requires Inv-loop μ-loop
 fresh-requires c κs = tt
 
 loop-holds : tie.Need-loop-holds Inv-loop μ-loop
-loop-holds c = tt
+loop-holds c = search needs
 
 sub-turns : tie.Need-sub-turns Inv-loop μ-loop
 sub-turns c = omega arith
 
-rest-of-requires : tie.Need-rest-of-requires Inv-loop μ-loop
-rest-of-requires c κs = tt
+read-requires : tie.Need-read-requires Inv-loop μ-loop
+read-requires c κs = tt
 
-next-command-requires : tie.Need-next-command-requires Inv-loop μ-loop
-next-command-requires c κs = tt
-
-enum-known-n : tie.Need-enum-known-n Inv-loop μ-loop
-enum-known-n c = search needs
-
-part-requires : tie.Need-part-requires Inv-loop μ-loop
-part-requires c κs = tt
-
-hand-requires : tie.Need-hand-requires Inv-loop μ-loop
-hand-requires c κs = tt
-
-after-requires : tie.Need-after-requires Inv-loop μ-loop
-after-requires c κs = tt
-
-tell-requires : tie.Need-tell-requires Inv-loop μ-loop
-tell-requires c κs = tt
-
-loop-less : tie.Need-loop-less Inv-loop μ-loop
-loop-less c = omega arith
-
-loop-again : tie.Need-loop-again Inv-loop μ-loop
-loop-again c = tt
-
-enum-told : tie.Need-enum-told Inv-loop μ-loop
-enum-told c = search needs
-
-hand-requires-2 : tie.Need-hand-requires-2 Inv-loop μ-loop
-hand-requires-2 c κs = tt
-
-tell-requires-2 : tie.Need-tell-requires-2 Inv-loop μ-loop
-tell-requires-2 c κs = tt
+turn-requires : tie.Need-turn-requires Inv-loop μ-loop
+turn-requires c κs = tt
 
 write-requires : tie.Need-write-requires Inv-loop μ-loop
 write-requires c κs = tt
@@ -63,59 +42,33 @@ write-requires c κs = tt
 returns : tie.Need-returns Inv-loop μ-loop
 returns c = tt
 
-enum-told-2 : tie.Need-enum-told-2 Inv-loop μ-loop
-enum-told-2 c = search needs
-
-write-requires-2 : tie.Need-write-requires-2 Inv-loop μ-loop
-write-requires-2 c κs = tt
-
-read-more-requires : tie.Need-read-more-requires Inv-loop μ-loop
-read-more-requires c κs = tt
-
 returns-2 : tie.Need-returns-2 Inv-loop μ-loop
 returns-2 c = tt
 
-loop-less-2 : tie.Need-loop-less-2 Inv-loop μ-loop
-loop-less-2 c = omega arith
+keep-requires : tie.Need-keep-requires Inv-loop μ-loop
+keep-requires c κs = tt
 
-loop-again-2 : tie.Need-loop-again-2 Inv-loop μ-loop
-loop-again-2 c = tt
+loop-less : tie.Need-loop-less Inv-loop μ-loop
+loop-less c = omega (arith, c .before .before .before .before .before .before .before .before .before .before .before .before .loop-test .taken)
 
-enum-told-3 : tie.Need-enum-told-3 Inv-loop μ-loop
-enum-told-3 c = search needs
+-- a stream that goes on had a read, and what it leaves is short
+short : (b : Bool) (bytes : List _) → givenOf b bytes .ended ≡ false → length (leftOf b bytes) < longest
+short true bytes e = absurd (false≢true (sym e ∙ all-ended bytes))
+short false bytes e = waits-short bytes e
 
-write-requires-3 : tie.Need-write-requires-3 Inv-loop μ-loop
-write-requires-3 c κs = tt
-
-to-front-requires : tie.Need-to-front-requires Inv-loop μ-loop
-to-front-requires c κs = tt
-
-read-more-requires-2 : tie.Need-read-more-requires-2 Inv-loop μ-loop
-read-more-requires-2 c κs = tt
-
-rest-of-requires-2 : tie.Need-rest-of-requires-2 Inv-loop μ-loop
-rest-of-requires-2 c κs = tt
-
-hand-requires-3 : tie.Need-hand-requires-3 Inv-loop μ-loop
-hand-requires-3 c κs = tt
-
-tell-requires-3 : tie.Need-tell-requires-3 Inv-loop μ-loop
-tell-requires-3 c κs = tt
-
-write-requires-4 : tie.Need-write-requires-4 Inv-loop μ-loop
-write-requires-4 c κs = tt
+loop-again : tie.Need-loop-again Inv-loop μ-loop
+unfolding handedOn leftOf
+loop-again c =
+    let turned = c .before .before .before .before .before .before .before .turn in
+    let o = c .before .before .before .before .before .before .before .before .before .before in
+    let bytes = take (o .read .result) (o .read .last .0) in
+    let all = eqb (o .read .result) (o .before .before .before .loop .left) in
+    let goes = sym (ap (λ h. h .ended) (turned .ensures .0)) ∙ c .before .before .before .if2 .left in
+    let used = ap (λ h. h .used) (turned .ensures .0) in
+    rw (c .keep .ensures .0, used) (short all bytes goes)
 
 returns-3 : tie.Need-returns-3 Inv-loop μ-loop
 returns-3 c = tt
-
-loop-less-3 : tie.Need-loop-less-3 Inv-loop μ-loop
-loop-less-3 c = omega arith
-
-loop-again-3 : tie.Need-loop-again-3 Inv-loop μ-loop
-loop-again-3 c = tt
-
-returns-4 : tie.Need-returns-4 Inv-loop μ-loop
-returns-4 c = tt
 
 pub run-spec : {M : Type 1} → statement M
 run-spec =
@@ -126,35 +79,12 @@ run-spec =
     fresh-requires
     loop-holds
     sub-turns
-    rest-of-requires
-    next-command-requires
-    enum-known-n
-    part-requires
-    hand-requires
-    after-requires
-    tell-requires
-    loop-less
-    loop-again
-    enum-told
-    hand-requires-2
-    tell-requires-2
+    read-requires
+    turn-requires
     write-requires
     returns
-    enum-told-2
-    write-requires-2
-    read-more-requires
     returns-2
-    loop-less-2
-    loop-again-2
-    enum-told-3
-    write-requires-3
-    to-front-requires
-    read-more-requires-2
-    rest-of-requires-2
-    hand-requires-3
-    tell-requires-3
-    write-requires-4
-    returns-3
-    loop-less-3
-    loop-again-3
-    returns-4)
+    keep-requires
+    loop-less
+    loop-again
+    returns-3)
