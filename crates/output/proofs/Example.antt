@@ -1,7 +1,7 @@
 -- The example of 01 holds, by computation.
 use mathlib.Core.Path.{refl}
-use Rattle.wire.specs.Portions.{portionAt, nextPortion, givenBy, givenWithin, givenOf}
-use Rattle.wire.specs.Reads.{textBy}
+use Rattle.portions.specs.Portions.{portionAt, nextPortion, givenBy, givenWithin, givenOf}
+use Rattle.portions.specs.Reads.{textBy}
 use Rattle.wire.specs.Split.{codeNext, nextCommand}
 use Rattle.rules.proofs.Computing.{computing}
 use Rattle.line.specs.Lines.{decimalOf, hexOf, lineOf}

@@ -7,10 +7,10 @@ use native.Mathlib.Omega.{arith}
 use lib.ListN.{length, take, drop}
 use lib.Seq.{take-append-seam}
 use Rattle.wire.specs.Bytes.{placed}
-use Rattle.wire.specs.Portions.{givenOf, leftOf, portionsOf}
-use Rattle.wire.specs.Reads.{Standing, textBy, stateBy, turnOf}
-use Rattle.wire.proofs.Giving.{enough}
-use Rattle.wire.proofs.Reading.{cut-anyhow, ended-anyhow, written-is-a-beginning}
+use Rattle.portions.specs.Portions.{givenOf, leftOf, portionsOf}
+use Rattle.portions.specs.Reads.{Standing, textBy, stateBy, turnOf}
+use Rattle.portions.proofs.Giving.{enough}
+use Rattle.portions.proofs.Reading.{cut-anyhow, ended-anyhow, written-is-a-beginning}
 use Rattle.rules.specs.Commands.{freshStm}
 use Rattle.rules.specs.Runs.{moments, stateAfter, send}
 use Rattle.rules.specs.declared.Stm.{Stm}

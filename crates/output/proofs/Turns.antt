@@ -9,11 +9,11 @@ use lib.Seq.{length-take-le, drop-drop}
 use lib.ListN.{take-append-drop}
 use borrow.Author.Tests.{le-ltb}
 use Rattle.wire.specs.Bytes.{placed}
-use Rattle.wire.specs.declared.portions.Portion.{Portion}
-use Rattle.wire.specs.Portions.{nextPortion, portionLength, isLast, Given, given, givenWithin}
-use Rattle.wire.specs.Reads.{textBy}
-use Rattle.wire.proofs.Giving.{portion-fits}
-use Rattle.wire.proofs.Handing.{Ahead, ahead-state, ahead-used, ahead-text, ahead-nothing, ahead-command, ahead-last}
+use Rattle.portions.specs.declared.next.Portion.{Portion}
+use Rattle.portions.specs.Portions.{nextPortion, portionLength, isLast, Given, given, givenWithin}
+use Rattle.portions.specs.Reads.{textBy}
+use Rattle.portions.proofs.Giving.{portion-fits}
+use Rattle.portions.proofs.Handing.{Ahead, ahead-state, ahead-used, ahead-text, ahead-nothing, ahead-command, ahead-last}
 use Rattle.rules.specs.Runs.{stateAfter, send}
 use Rattle.rules.specs.declared.Stm.{Stm}
 use Rattle.line.specs.Lines.{lineIn, lineWidth}

@@ -5,8 +5,8 @@ use mathlib.Core.Bool.{Bool, true, false, cond}
 use mathlib.Core.List.{List, [], _++_, map, flatMap, flatten}
 use lib.ListN.{length, take, drop}
 use Rattle.wire.specs.Bytes.{placed}
-use Rattle.wire.specs.Portions.{givenOf, portionsOf}
-use Rattle.wire.specs.Reads.{Standing, textBy, atFirst, turnOf, afterReads, afterEnd}
+use Rattle.portions.specs.Portions.{givenOf, portionsOf}
+use Rattle.portions.specs.Reads.{Standing, textBy, atFirst, turnOf, afterReads, afterEnd}
 use Rattle.rules.specs.Commands.{freshStm}
 use Rattle.rules.specs.Runs.{moments, send}
 use Rattle.rules.specs.declared.Stm.{Stm}

@@ -4,8 +4,8 @@ use mathlib.Core.Bool.{Bool}
 use mathlib.Core.List.{List, flatten}
 use lib.ListN.{length}
 use Rattle.wire.specs.Codes.{shortest}
-use Rattle.wire.specs.Portions.{Given, givenWithin, portionsOf}
-use Rattle.wire.specs.Reads.{Writer, textBy, stateBy}
+use Rattle.portions.specs.Portions.{Given, givenWithin, portionsOf}
+use Rattle.portions.specs.Reads.{Writer, textBy, stateBy}
 use Rattle.rules.specs.Commands.{freshStm}
 use Rattle.rules.specs.Runs.{Moment, momentOf, stateAfter, send}
 use Rattle.rules.specs.declared.Stm.{Stm}

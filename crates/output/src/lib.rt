@@ -6,8 +6,8 @@ ghost use Prim.Native.Nat.{_≤_};
 ghost use lib.Dec.{eqb};
 ghost use lib.ListN.{length, take};
 ghost use Rattle.wire.specs.Bytes.{placed};
-ghost use Rattle.wire.specs.Portions.{givenOf};
-ghost use Rattle.wire.specs.Reads.{textBy};
+ghost use Rattle.portions.specs.Portions.{givenOf};
+ghost use Rattle.portions.specs.Reads.{textBy};
 ghost use Rattle.rules.specs.Runs.{stateAfter, send};
 ghost use Rattle.line.specs.Lines.{lineWidth};
 ghost use Rattle.output.specs.Streams.{lines, lineTold, handedOn, givenIn};
@@ -62,8 +62,8 @@ pub fn hand_on(stm: Stm, bytes: &[u8], all: bool, output: &mut [u8]) -> Handed
     let mut i = 0;
     while i < most {
         let rest = &bytes[used..];
-        let portion = wire::next_portion(rest, all);
-        let n = wire::portion_length(portion);
+        let portion = portions::next_portion(rest, all);
+        let n = portions::portion_length(portion);
         if n == 0 {
             return Handed {
                 stm,
@@ -76,7 +76,7 @@ pub fn hand_on(stm: Stm, bytes: &[u8], all: bool, output: &mut [u8]) -> Handed
         stm = told.stm;
         written += told.written;
         used += n;
-        if wire::is_last(portion) {
+        if portions::is_last(portion) {
             return Handed {
                 stm,
                 used,
@@ -106,5 +106,5 @@ pub fn turn(
     ensures { λ r. ⌜ r ≡ handedOn stm (givenOf (eqb to left) (take to (now (input .entry)))) ⌝ }
     ensures { λ _. ⌜ now (output .exit) ≡ placed (textBy lines stm (givenOf (eqb to left) (take to (now (input .entry))) .portions)) (now (output .entry)) ⌝ }
 {
-    hand_on(stm, wire::part(input, 0, to), to == left, output)
+    hand_on(stm, portions::part(input, 0, to), to == left, output)
 }

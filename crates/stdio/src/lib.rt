@@ -34,7 +34,7 @@ fn read(input: &mut [u8; INPUT], left: usize) -> usize
 
 // Writes the first bytes of the lines, and tells whether all were written.
 fn write(lines: &[u8; OUTPUT], written: usize) -> bool {
-    io::write_all(1, wire::part(lines, 0, written))
+    io::write_all(1, portions::part(lines, 0, written))
 }
 
 // Brings the bytes that are not used yet to the front, and tells how many they are.
@@ -42,7 +42,7 @@ fn keep(input: &mut [u8; INPUT], used: usize, to: usize) -> usize
     ensures { λ r. ⌜ r ≡ length (slice used to (now (input .entry))) ⌝ }
     ensures { λ _. ⌜ now (input .exit) ≡ placed (slice used to (now (input .entry))) (now (input .entry)) ⌝ }
 {
-    wire::to_front(input, used, to)
+    portions::to_front(input, used, to)
 }
 
 // Runs until the stream ends or a write fails. Memory is fixed, whatever the input.

@@ -1,18 +1,15 @@
 // Commands as bytes, as 01 lays them out: the code table, refusals 1 to 4, the operand part, the next command of a
-// stream and its portions, numbers high byte first, and equal and copied bytes.
+// stream, numbers high byte first, and equal and copied bytes.
 //
 // No public function has a `requires`: each is defined at every input.
 mod bytes;
 mod codes;
 mod form;
 mod numbers;
-mod portions;
 mod split;
 
 pub use bytes::copy_whole;
-pub use bytes::part;
 pub use bytes::same;
-pub use bytes::to_front;
 pub use codes::CODES;
 pub use codes::COMMANDS;
 pub use codes::LONGEST;
@@ -31,9 +28,5 @@ pub use numbers::high;
 pub use numbers::low;
 pub use numbers::signed8;
 pub use numbers::signed16;
-pub use portions::Portion;
-pub use portions::is_last;
-pub use portions::next_portion;
-pub use portions::portion_length;
 pub use split::Next;
 pub use split::next_command;

@@ -9,9 +9,9 @@ use denote.Ref.{now}
 use lib.ListN.{length, take, drop}
 use lib.Seq.{length-take-le}
 use borrow.Author.Needs.{needs}
-use Rattle.wire.specs.Portions.{portionLength, givenWithin}
-use Rattle.wire.proofs.Giving.{portion-fits}
-use Rattle.wire.proofs.Handing.{Ahead, ahead-first}
+use Rattle.portions.specs.Portions.{portionLength, givenWithin}
+use Rattle.portions.proofs.Giving.{portion-fits}
+use Rattle.portions.proofs.Handing.{Ahead, ahead-first}
 use Rattle.line.specs.Lines.{lineWidth}
 use Rattle.output.specs.Streams.{lines, givenIn}
 use Rattle.output.proofs.Turns.{all-handed, none-more, fits, nothing, told-room, told-within, same-after, behind-after, goes-on, ends}

@@ -7,8 +7,8 @@ use lib.Dec.{eqb}
 use lib.ListN.{length, take, length-take}
 use borrow.Author.Needs.{needs}
 use Rattle.wire.specs.Bytes.{placed}
-use Rattle.wire.specs.Portions.{givenOf}
-use Rattle.wire.specs.Reads.{textBy}
+use Rattle.portions.specs.Portions.{givenOf}
+use Rattle.portions.specs.Reads.{textBy}
 use Rattle.output.specs.Streams.{lines, handedOn, givenIn, inputRoom, outputRoom}
 use Rattle.output.proofs.Promises.{all-has-room}
 use Rattle.output.proofs.turn.Statement.{statement}

@@ -9,8 +9,8 @@ use lib.Dec.{eqb}
 use lib.ListN.{length, take, drop}
 use borrow.Author.Needs.{needs}
 use Rattle.wire.specs.Codes.{longest}
-use Rattle.wire.specs.Portions.{givenOf, leftOf}
-use Rattle.wire.proofs.Giving.{all-ended, waits-short}
+use Rattle.portions.specs.Portions.{givenOf, leftOf}
+use Rattle.portions.proofs.Giving.{all-ended, waits-short}
 use Rattle.output.specs.Streams.{handedOn}
 use Rattle.stdio.proofs.run.Statement.{statement}
 use Rattle.stdio.proofs.run.Tie as tie

@@ -8,17 +8,17 @@ use native.Mathlib.Omega.{arith}
 use lib.ListN.{length, take, drop}
 use lib.Seq.{take-append-seam, drop-append-seam, take-length, length-take-le, getD-take}
 use borrow.Author.Tests.{ne-eqb}
 use Rattle.wire.specs.declared.form.Form.{Form}
-use Rattle.wire.specs.declared.portions.Portion.{Portion}
+use Rattle.portions.specs.declared.next.Portion.{Portion}
 use Rattle.wire.specs.declared.split.Next.{Next}
-use Rattle.wire.specs.Claims.{CommandsGiven, NoCodeEnds, ShortWaits}
+use Rattle.portions.specs.Claims.{CommandsGiven, NoCodeEnds, ShortWaits}
 use Rattle.wire.specs.Form.{reportLength, formOf, refusalTo, refusalOf}
 use Rattle.wire.specs.Numbers.{byteAt}
-use Rattle.wire.specs.Portions.{portionAt, nextPortion, given, givenOf}
+use Rattle.portions.specs.Portions.{portionAt, nextPortion, given, givenOf}
 use Rattle.wire.specs.Split.{codeNext, nextCommand, nextRefusal, restRefusal}
 use Rattle.laws.proofs.Lists.{never}
 use Rattle.wire.proofs.Commands.{whole-split, form-number, next-number, rest-refused, no-code-first}
-use Rattle.wire.proofs.Giving.{next-portion, given-nothing, given-command, given-last}
+use Rattle.portions.proofs.Giving.{next-portion, given-nothing, given-command, given-last}
 
 whole-of : (f : Form) → refusalOf f ≡ none → f ≡ Form.Whole
 unfolding refusalOf

@@ -6,14 +6,14 @@ use mathlib.Core.List.{List, [], _∷_, _++_, append-assoc, append-nil, flatten}
 use native.Mathlib.Omega.{arith}
 use lib.ListN.{length, take, drop, length-append, length-drop, take-append-drop}
 use lib.Seq.{take-append-le, drop-append-le, drop-drop, length-take-le}
-use Rattle.wire.specs.declared.portions.Portion.{Portion}
+use Rattle.portions.specs.declared.next.Portion.{Portion}
 use Rattle.wire.specs.declared.split.Next.{Next}
-use Rattle.wire.specs.Claims.{NothingLost, EmptyEnds, WaitsShort}
+use Rattle.portions.specs.Claims.{NothingLost, EmptyEnds, WaitsShort}
 use Rattle.wire.specs.Codes.{shortest, longest}
-use Rattle.wire.specs.Portions.{portionAt, nextPortion, portionLength, isLast, Given, given, givenBy, givenWithin, givenOf, leftOf}
+use Rattle.portions.specs.Portions.{portionAt, nextPortion, portionLength, isLast, Given, given, givenBy, givenWithin, givenOf, leftOf}
 use Rattle.wire.specs.Split.{nextCommand}
 use Rattle.laws.proofs.Lists.{never}
 use Rattle.wire.proofs.Commands.{command-stays, no-code-first, no-code-stays, short-length, end-length, command-length}
 
 -- ---- the next portion
 

@@ -1,9 +1,9 @@
--- `wire::portions::next_portion` meets its contract. Assumes nothing.
+-- `portions::next::next_portion` meets its contract. Assumes nothing.
 use mathlib.Core.Path.{sym, _∙_}
 use borrow.Author.Needs.{needs}
-use Rattle.wire.specs.Portions.{portionAt, nextPortion}
-use Rattle.wire.proofs.portions.next_portion.Statement.{statement}
-use Rattle.wire.proofs.portions.next_portion.Tie as tie
+use Rattle.portions.specs.Portions.{portionAt, nextPortion}
+use Rattle.portions.proofs.next.next_portion.Statement.{statement}
+use Rattle.portions.proofs.next.next_portion.Tie as tie
 
 next-command-requires : tie.Need-next-command-requires
 next-command-requires c κs = search needs

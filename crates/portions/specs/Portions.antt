@@ -3,9 +3,9 @@ use Prim.Native.Nat.{ℕ, zero, suc}
 use mathlib.Core.Bool.{Bool, true, false, cond}
 use mathlib.Core.List.{List, [], _∷_, flatten}
 use lib.ListN.{length, take, drop}
-use Rattle.wire.specs.declared.portions.Portion.{Portion}
+use Rattle.portions.specs.declared.next.Portion.{Portion}
 use Rattle.wire.specs.declared.split.Next.{Next}
 use Rattle.wire.specs.Split.{nextCommand}
 
 -- 01, "each command as long as its code says (a rest too short is refusal 4)": what of the bytes at hand is given next, where
 -- `all` says that no bytes come after them. A command that is not whole yet waits; a byte that is no code is given by itself

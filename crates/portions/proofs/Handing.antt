@@ -6,9 +6,9 @@ use mathlib.Core.List.{List, [], _∷_, _++_, append-assoc, append-nil, flatten}
 use native.Mathlib.Omega.{arith}
 use lib.ListN.{length, take, drop, length-append}
 use lib.Seq.{length-take-le, drop-drop}
-use Rattle.wire.specs.Portions.{nextPortion, portionLength, isLast, Given, given, givenBy, givenWithin}
-use Rattle.wire.specs.Reads.{Writer, textBy, stateBy}
-use Rattle.wire.proofs.Giving.{portion-fits, portion-nothing, portion-command, portion-last}
+use Rattle.portions.specs.Portions.{nextPortion, portionLength, isLast, Given, given, givenBy, givenWithin}
+use Rattle.portions.specs.Reads.{Writer, textBy, stateBy}
+use Rattle.portions.proofs.Giving.{portion-fits, portion-nothing, portion-command, portion-last}
 
 -- from a state x on `whole` is given. So far `used` bytes are given and `text` is written for them; the state is y and `ahead` is left
 pub record Ahead {X : Type 0} (w : Writer X) (x : X) (whole : Given) (y : X) (used : ℕ) (text : List ℕ) (ahead : Given) : Type 0 where

@@ -5,11 +5,11 @@ use mathlib.Core.Bool.{Bool, true, false}
 use mathlib.Core.Option.{none, some}
 use mathlib.Core.List.{List, [], _∷_, _++_, flatten, List·Memᴰ}
 use lib.ListN.{length, take}
 use Rattle.wire.specs.Codes.{longest}
 use Rattle.wire.specs.Form.{reportLength, refusalTo}
-use Rattle.wire.specs.Portions.{given, givenOf, leftOf, portionsOf}
-use Rattle.wire.specs.Reads.{Writer, textBy, atFirst, turnOf, afterReads, afterEnd}
+use Rattle.portions.specs.Portions.{given, givenOf, leftOf, portionsOf}
+use Rattle.portions.specs.Reads.{Writer, textBy, atFirst, turnOf, afterReads, afterEnd}
 use Rattle.wire.specs.Split.{restRefusal}
 
 -- ---- the portions
 

@@ -1,8 +1,8 @@
 // The portions of a stream: the bytes that the unit is given, a call each.
 ghost use mathlib.Core.Path.{_≡_};
-ghost use Rattle.wire.specs.Portions.{nextPortion, portionLength, isLast};
-use crate::split::Next;
-use crate::split::next_command;
+ghost use Rattle.portions.specs.Portions.{nextPortion, portionLength, isLast};
+use wire::Next;
+use wire::next_command;
 
 pub enum Portion {
     // There is none, or it is not whole yet.

@@ -1,10 +1,10 @@
--- `wire::bytes::part` meets its contract. Assumes nothing.
+-- `portions::bytes::part` meets its contract. Assumes nothing.
 use native.Mathlib.Omega.{arith}
 use denote.Ref.{now}
 use borrow.Author.Needs.{needs}
-use Rattle.wire.proofs.Parts.{part-inside, part-to-end, part-empty}
-use Rattle.wire.proofs.bytes.part.Statement.{statement}
-use Rattle.wire.proofs.bytes.part.Tie as tie
+use Rattle.portions.proofs.Parts.{part-inside, part-to-end, part-empty}
+use Rattle.portions.proofs.bytes.part.Statement.{statement}
+use Rattle.portions.proofs.bytes.part.Tie as tie
 
 part-result-start : tie.Need-part-result-start
 part-result-start c = search needs

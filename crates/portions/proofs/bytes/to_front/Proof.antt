@@ -1,4 +1,4 @@
--- `wire::bytes::to_front` meets its contract. The loop's invariant: the part's bytes stand before `i`, and from there on what
+-- `portions::bytes::to_front` meets its contract. The loop's invariant: the part's bytes stand before `i`, and from there on what
 -- stood there. Assumes nothing.
 use Prim.Native.Nat.{_≤_, _-_, min}
 use mathlib.Core.Path.{_≡_, refl, sym, ap, _∙_}
@@ -7,10 +7,10 @@ use native.Mathlib.Omega.{arith}
 use denote.Ref.{now}
 use lib.ListN.{length, take, drop, length-set}
 use lib.Seq.{take-length, slice}
 use Rattle.wire.specs.Bytes.{placed}
-use Rattle.wire.proofs.Parts.{part-length, bring-step}
-use Rattle.wire.proofs.bytes.to_front.Statement.{statement}
-use Rattle.wire.proofs.bytes.to_front.Tie as tie
+use Rattle.portions.proofs.Parts.{part-length, bring-step}
+use Rattle.portions.proofs.bytes.to_front.Statement.{statement}
+use Rattle.portions.proofs.bytes.to_front.Tie as tie
 
 abbrev Inv-loop : tie.InvT-loop
 Inv-loop s₀ from to n i₀ s i =

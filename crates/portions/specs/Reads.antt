@@ -3,7 +3,7 @@
 use Prim.Native.Nat.{ℕ}
 use mathlib.Core.Bool.{Bool, true, false, cond}
 use mathlib.Core.List.{List, [], _∷_, _++_}
-use Rattle.wire.specs.Portions.{givenOf, leftOf}
+use Rattle.portions.specs.Portions.{givenOf, leftOf}
 
 pub record Writer (X : Type 0) : Type 0 where
   pub next : X → List ℕ → X

@@ -5,10 +5,10 @@ use mathlib.Core.Bool.{Bool, true, false, cond}
 use mathlib.Core.List.{List, [], _∷_, _++_, append-assoc, append-nil, flatten}
 use native.Mathlib.Omega.{arith}
 use lib.ListN.{length}
-use Rattle.wire.specs.Claims.{CutAnyhow, EndedAnyhow, WrittenIsABeginning}
-use Rattle.wire.specs.Portions.{givenOf, leftOf, portionsOf}
-use Rattle.wire.specs.Reads.{Writer, textBy, stateBy, Standing, atFirst, turnOf, afterRead, afterReads, afterEnd}
-use Rattle.wire.proofs.Giving.{given-over, given-joined, left-joined, empty-ends, all-ended}
+use Rattle.portions.specs.Claims.{CutAnyhow, EndedAnyhow, WrittenIsABeginning}
+use Rattle.portions.specs.Portions.{givenOf, leftOf, portionsOf}
+use Rattle.portions.specs.Reads.{Writer, textBy, stateBy, Standing, atFirst, turnOf, afterRead, afterReads, afterEnd}
+use Rattle.portions.proofs.Giving.{given-over, given-joined, left-joined, empty-ends, all-ended}
 
 module _ {X : Type 0} (w : Writer X) where
   pub text-joined : (x : X) (ps qs : List (List ℕ)) → textBy w x (ps ++ qs) ≡ textBy w x ps ++ textBy w (stateBy w x ps) qs

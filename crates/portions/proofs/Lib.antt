@@ -1,0 +1,5 @@
+pub mod Ending
+pub mod Giving
+pub mod Handing
+pub mod Parts
+pub mod Reading
