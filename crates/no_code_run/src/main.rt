@@ -1,0 +1,4 @@
+// The stream program on one byte that is no code.
+fn main() {
+    stdio::run();
+}

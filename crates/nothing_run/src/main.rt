@@ -1,0 +1,4 @@
+// The stream program on no bytes at all.
+fn main() {
+    stdio::run();
+}
