@@ -25,19 +25,10 @@ fn put_bytes(bytes: &[u8]) {
     }
 }
 
-fn part(s: &[u8], from: usize, to: usize) -> &[u8] {
-    if to <= s.len() {
-        if from <= to {
-            return &s[from..to];
-        }
-    }
-    &s[..0]
-}
-
 // The command of a record.
 fn command_of(record: &[u8; RECORD]) -> &[u8] {
     let n = wire::byte_at(record, 1) as usize;
-    part(record, 2, 2 + n)
+    portions::part(record, 2, 2 + n)
 }
 
 // Calls the unit with the first n bytes of a buffer as the area.
@@ -59,7 +50,7 @@ fn put_outcome(record: &[u8; RECORD], outcome: Outcome, area: &[u8; AREA]) {
     put(b"answer ");
     io::print_decimal(1, unit::answer_number(answer) as u64);
     put(b" area ");
-    put_bytes(part(area, 0, n));
+    put_bytes(portions::part(area, 0, n));
     put(b" operands ");
     put_bytes(unit::operands(command_of(record), n));
     put(b"\n");

@@ -8,7 +8,7 @@ use lib.ListN.{length, take, drop, length-append, length-drop, take-append-drop}
 use lib.Seq.{take-append-le, drop-append-le, drop-drop, length-take-le}
 use Rattle.portions.specs.declared.next.Portion.{Portion}
 use Rattle.wire.specs.declared.split.Next.{Next}
-use Rattle.portions.specs.Claims.{NothingLost, EmptyEnds, WaitsShort}
+use Rattle.portions.specs.Claims.{NothingLost, EmptyEnds, AnyRoom, WaitsShort}
 use Rattle.wire.specs.Codes.{shortest, longest}
 use Rattle.portions.specs.Portions.{portionAt, nextPortion, portionLength, isLast, Given, given, givenBy, givenWithin, givenOf, leftOf}
 use Rattle.wire.specs.Split.{nextCommand}
@@ -296,3 +296,68 @@ left-joined all s t e =
     let before : drop (length (flatten ps)) (s ++ t) ≡ leftOf false s ++ t = drop-append-le (length (flatten ps)) s t (given-bytes false s) in
     rw (given-joined (suc (length s)) all s t (omega arith) e, counted)
     (sym (drop-drop (length (flatten qs)) (length (flatten ps)) (s ++ t)) ∙ ap (drop (length (flatten qs))) before)
+
+within-nothing : (k : ℕ) (all : Bool) (s : List ℕ) → nextPortion all s ≡ Portion.Nothing → givenWithin (suc k) all s ≡ given [] all
+unfolding givenWithin givenBy
+within-nothing k all s e = rw e
+
+within-command : (k : ℕ) (all : Bool) (s : List ℕ) (n : ℕ) → nextPortion all s ≡ Portion.Command n
+    → givenWithin (suc k) all s ≡ given (take n s ∷ givenWithin k all (drop n s) .portions) (givenWithin k all (drop n s) .ended)
+unfolding givenWithin givenBy
+within-command k all s n e = rw e
+
+within-last : (k : ℕ) (all : Bool) (s : List ℕ) (n : ℕ) → nextPortion all s ≡ Portion.Last n → givenWithin (suc k) all s ≡ given (take n s ∷ []) true
+unfolding givenWithin givenBy
+within-last k all s n e = rw e
+
+none-within : (all : Bool) (s : List ℕ) → false ≡ givenWithin zero all s .ended
+unfolding givenWithin
+none-within all s = refl
+
+no-portions : (all : Bool) (s : List ℕ) → givenWithin zero all s .portions ≡ []
+unfolding givenWithin
+no-portions all s = refl
+
+ended-within : (k : ℕ) (all : Bool) (s : List ℕ) → givenWithin k all s .ended ≡ true → givenWithin k all s ≡ givenOf all s
+ended-within zero all s e = absurd (false≢true (none-within all s ∙ e))
+ended-within (suc k) all s e = by (ways all s) (λ n f. ended-within k all (drop n s) f)
+  where
+    by : Ways all s → ((n : ℕ) → givenWithin k all (drop n s) .ended ≡ true → givenWithin k all (drop n s) ≡ givenOf all (drop n s))
+        → givenWithin (suc k) all s ≡ givenOf all s
+    by (nothing p) more = within-nothing k all s p ∙ sym (given-nothing all s p)
+    by (command n p) more =
+        let now = within-command k all s n p in
+        now ∙ rw (more n (rw now at e)) (sym (given-command all s n p))
+    by (last n long p) more = within-last k all s n p ∙ sym (given-last all s n p)
+
+-- what is not given yet within a bound
+abbrev behind : ℕ → Bool → List ℕ → List ℕ
+behind k all s = drop (length (flatten (givenWithin k all s .portions))) s
+
+behind-command : (k : ℕ) (all : Bool) (s : List ℕ) (n : ℕ) → nextPortion all s ≡ Portion.Command n → behind (suc k) all s ≡ behind k all (drop n s)
+unfolding flatten
+behind-command k all s n e =
+    let more = flatten (givenWithin k all (drop n s) .portions) in
+    let long = portion-within all s n e .1 in
+    let counted : length (take n s ++ more) ≡ n + length more = length-append (take n s) more ∙ ap (λ i. i + length more) (length-take-le n s long) in
+    rw (within-command k all s n e, counted) (sym (drop-drop (length more) n s))
+
+goes-on : (k : ℕ) (all : Bool) (s : List ℕ) → givenWithin k all s .ended ≡ false
+    → givenOf all s ≡ joined (givenWithin k all s .portions) (givenOf all (behind k all s))
+unfolding flatten
+goes-on zero all s e = rw (no-portions all s)
+goes-on (suc k) all s e = by (ways all s) (λ n f. goes-on k all (drop n s) f)
+  where
+    by : Ways all s
+        → ((n : ℕ) → givenWithin k all (drop n s) .ended ≡ false
+        → givenOf all (drop n s) ≡ joined (givenWithin k all (drop n s) .portions) (givenOf all (behind k all (drop n s))))
+        → givenOf all s ≡ joined (givenWithin (suc k) all s .portions) (givenOf all (behind (suc k) all s))
+    by (nothing p) more = rw (within-nothing k all s p)
+    by (command n p) more =
+        let now = within-command k all s n p in
+        let rest = more n (rw now at e) in
+        rw (behind-command k all s n p, now, given-command all s n p, rest)
+    by (last n long p) more = absurd (false≢true (sym (rw (within-last k all s n p) at e)))
+
+pub any-room : AnyRoom
+any-room k all s = (ended-within k all s, goes-on k all s)

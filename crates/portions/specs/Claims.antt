@@ -4,10 +4,10 @@ use mathlib.Core.Path.{_≡_}
 use mathlib.Core.Bool.{Bool, true, false}
 use mathlib.Core.Option.{none, some}
 use mathlib.Core.List.{List, [], _∷_, _++_, flatten, List·Memᴰ}
-use lib.ListN.{length, take}
+use lib.ListN.{length, take, drop}
 use Rattle.wire.specs.Codes.{longest}
 use Rattle.wire.specs.Form.{reportLength, refusalTo}
-use Rattle.portions.specs.Portions.{given, givenOf, leftOf, portionsOf}
+use Rattle.portions.specs.Portions.{given, givenWithin, givenOf, leftOf, portionsOf}
 use Rattle.portions.specs.Reads.{Writer, textBy, atFirst, turnOf, afterReads, afterEnd}
 use Rattle.wire.specs.Split.{restRefusal}
 
@@ -39,6 +39,15 @@ ShortWaits =
 -- an empty rest waits, and ends it with no refusal
 abbrev pub EmptyEnds : Type 0
 EmptyEnds = (all : Bool) → givenOf all [] ≡ given [] all
+
+-- where at most k portions may be given: once the stream has ended it is as without a bound, and otherwise the bytes that are not given
+-- yet give the rest
+abbrev pub AnyRoom : Type 0
+AnyRoom =
+    (k : ℕ) (all : Bool) (s : List ℕ)
+    → let g = givenWithin k all s in
+    let more = givenOf all (drop (length (flatten (g .portions))) s) in
+    (g .ended ≡ true → g ≡ givenOf all s) × (g .ended ≡ false → givenOf all s ≡ given (g .portions ++ more .portions) (more .ended))
 
 -- fewer bytes wait than the longest command has, so that there is always room to read
 abbrev pub WaitsShort : Type 0

@@ -10,7 +10,7 @@ use lib.Seq.{drop-cons}
 use borrow.Author.Tests.{eqb-true, leb-true, eq-eqb, ne-eqb}
 use Rattle.wire.specs.declared.codes.Row.{Row}
 use Rattle.wire.specs.declared.codes.Length.{Length}
-use Rattle.wire.specs.Codes.{row, longest, commands, lengthIn, lengthOf}
+use Rattle.wire.specs.Codes.{row, shortest, longest, commands, lengthIn, lengthOf}
 use Rattle.laws.proofs.Lists.{_∈_, never, distinct-at, every-holds, cond-first}
 
 -- looking a code up at a place of the table
@@ -40,7 +40,7 @@ found : Row → Bool
 found r = gives (r .length) (lengthOf (r .code))
 
 within : Row → Bool
-within r = cond (leb 5 (r .length)) (leb (r .length) longest) false
+within r = cond (leb shortest (r .length)) (leb (r .length) longest) false
 
 -- every row is found: its code gives its length
 pub row-found : {r : Row} → r ∈ commands → lengthOf (r .code) ≡ Length.Bytes (r .length)
@@ -72,12 +72,12 @@ pub codes-distinct : (i j : ℕ) → i < j → j < length codes → getD codes i
 unfolding commands
 codes-distinct i j h k = distinct-at codes refl i j h k
 
--- no length is below 5 or above that of the longest
-pub lengths-within : (c n : ℕ) → lengthOf c ≡ Length.Bytes n → (5 ≤ n) × (n ≤ longest)
+-- no length is below that of the shortest or above that of the longest
+pub lengths-within : (c n : ℕ) → lengthOf c ≡ Length.Bytes n → (shortest ≤ n) × (n ≤ longest)
 unfolding commands within
 lengths-within c n e =
-    let t = cond-first (leb 5 n) (leb n longest) false (every-holds within commands refl (found-row c n e)) false≢true in
-    (leb-true 5 n (t .0), leb-true n longest (t .1))
+    let t = cond-first (leb shortest n) (leb n longest) false (every-holds within commands refl (found-row c n e)) false≢true in
+    (leb-true shortest n (t .0), leb-true n longest (t .1))
 
 -- and both stand: 01 start is as long as the longest, 31 proceed signal has 5 bytes
 pub start-length : lengthOf 0x01 ≡ Length.Bytes longest

@@ -126,15 +126,15 @@ returns-2 c =
     let end = sym (c .before .is-last .ensures) ∙ c .if2 .taken in
     all-handed (a .stm) (tell .result .stm) _ _ _ (now (a .output)) _ true
     (ends (now (a .bytes)) (now (a .output)) (o .loop .output) (a .all) _ (a .stm) (o .loop .stm) (o .loop .used) (o .loop .written) (o .loop .i) _
-      (c .before .before .before .before .before .before .before .before .before .before .before .before .before .loop-test .taken) (v .1) (v .2) (v .3) (v .4) (v .5)
+    (c .before .before .before .before .before .before .before .before .before .before .before .before .before .loop-test .taken) (v .1) (v .2) (v .3) (v .4) (v .5)
     _ _ (tell .result .stm) (tell .result .written) (tell .last .1 .1 .0) which long (tell .ensures .0) (tell .ensures .1 .0) (tell .ensures .1 .1 .0) (tell .ensures .1 .1 .1) end)
     (rw (same-after (now (a .bytes)) (now (a .output)) (o .loop .output) (a .all) _ (a .stm) (o .loop .stm) (o .loop .used) (o .loop .written) (o .loop .i) _
-      (c .before .before .before .before .before .before .before .before .before .before .before .before .before .loop-test .taken) (v .1) (v .2) (v .3) (v .4) (v .5)
+    (c .before .before .before .before .before .before .before .before .before .before .before .before .before .loop-test .taken) (v .1) (v .2) (v .3) (v .4) (v .5)
     _ _ (tell .result .stm) (tell .result .written) (tell .last .1 .1 .0) which long (tell .ensures .0) (tell .ensures .1 .0) (tell .ensures .1 .1 .0) (tell .ensures .1 .1 .1)) (rw (v .2) at (told-within (now (a .bytes)) (now (a .output)) (o .loop .output) (a .all) _ (a .stm) (o .loop .stm) (o .loop .used) (o .loop .written) (o .loop .i) _
-      (c .before .before .before .before .before .before .before .before .before .before .before .before .before .loop-test .taken) (v .1) (v .2) (v .3) (v .4) (v .5)
+    (c .before .before .before .before .before .before .before .before .before .before .before .before .before .loop-test .taken) (v .1) (v .2) (v .3) (v .4) (v .5)
     _ _ (tell .result .stm) (tell .result .written) (tell .last .1 .1 .0) which long (tell .ensures .0) (tell .ensures .1 .0) (tell .ensures .1 .1 .0) (tell .ensures .1 .1 .1))))
     (behind-after (now (a .bytes)) (now (a .output)) (o .loop .output) (a .all) _ (a .stm) (o .loop .stm) (o .loop .used) (o .loop .written) (o .loop .i) _
-      (c .before .before .before .before .before .before .before .before .before .before .before .before .before .loop-test .taken) (v .1) (v .2) (v .3) (v .4) (v .5)
+    (c .before .before .before .before .before .before .before .before .before .before .before .before .before .loop-test .taken) (v .1) (v .2) (v .3) (v .4) (v .5)
     _ _ (tell .result .stm) (tell .result .written) (tell .last .1 .1 .0) which long (tell .ensures .0) (tell .ensures .1 .0) (tell .ensures .1 .1 .0) (tell .ensures .1 .1 .1))
 
 add-i : tie.Need-add-i Inv-loop μ-loop
@@ -154,22 +154,22 @@ loop-again c =
     let some = c .before .before .before .before .before .before .before .before .before .if1 .left in
     let more = sym (c .before .is-last .ensures) ∙ c .if2 .left in
     let inside = fits (now (a .bytes)) (now (a .output)) (o .loop .output) (a .all) _ (a .stm) (o .loop .stm) (o .loop .used) (o .loop .written) (o .loop .i) _
-      (c .before .before .before .before .before .before .before .before .before .before .before .before .before .loop-test .taken) (v .1) (v .2) (v .3) (v .4) (v .5) in
+    (c .before .before .before .before .before .before .before .before .before .before .before .before .before .loop-test .taken) (v .1) (v .2) (v .3) (v .4) (v .5) in
     let n = long ∙ ap portionLength which in (
       omega (arith, c .before .before .before .before .before .before .before .before .before .before .before .before .before .loop-test .taken),
       omega (arith, n, inside),
       same-after (now (a .bytes)) (now (a .output)) (o .loop .output) (a .all) _ (a .stm) (o .loop .stm) (o .loop .used) (o .loop .written) (o .loop .i) _
-      (c .before .before .before .before .before .before .before .before .before .before .before .before .before .loop-test .taken) (v .1) (v .2) (v .3) (v .4) (v .5)
-      _ _ (tell .result .stm) (tell .result .written) (tell .last .1 .1 .0) which long (tell .ensures .0) (tell .ensures .1 .0) (tell .ensures .1 .1 .0) (tell .ensures .1 .1 .1),
+          (c .before .before .before .before .before .before .before .before .before .before .before .before .before .loop-test .taken) (v .1) (v .2) (v .3) (v .4) (v .5)
+          _ _ (tell .result .stm) (tell .result .written) (tell .last .1 .1 .0) which long (tell .ensures .0) (tell .ensures .1 .0) (tell .ensures .1 .1 .0) (tell .ensures .1 .1 .1),
       told-room (now (a .bytes)) (now (a .output)) (o .loop .output) (a .all) _ (a .stm) (o .loop .stm) (o .loop .used) (o .loop .written) (o .loop .i) _
-      (c .before .before .before .before .before .before .before .before .before .before .before .before .before .loop-test .taken) (v .1) (v .2) (v .3) (v .4) (v .5)
-      _ _ (tell .result .stm) (tell .result .written) (tell .last .1 .1 .0) which long (tell .ensures .0) (tell .ensures .1 .0) (tell .ensures .1 .1 .0) (tell .ensures .1 .1 .1),
+          (c .before .before .before .before .before .before .before .before .before .before .before .before .before .loop-test .taken) (v .1) (v .2) (v .3) (v .4) (v .5)
+          _ _ (tell .result .stm) (tell .result .written) (tell .last .1 .1 .0) which long (tell .ensures .0) (tell .ensures .1 .0) (tell .ensures .1 .1 .0) (tell .ensures .1 .1 .1),
       behind-after (now (a .bytes)) (now (a .output)) (o .loop .output) (a .all) _ (a .stm) (o .loop .stm) (o .loop .used) (o .loop .written) (o .loop .i) _
-      (c .before .before .before .before .before .before .before .before .before .before .before .before .before .loop-test .taken) (v .1) (v .2) (v .3) (v .4) (v .5)
-      _ _ (tell .result .stm) (tell .result .written) (tell .last .1 .1 .0) which long (tell .ensures .0) (tell .ensures .1 .0) (tell .ensures .1 .1 .0) (tell .ensures .1 .1 .1),
+          (c .before .before .before .before .before .before .before .before .before .before .before .before .before .loop-test .taken) (v .1) (v .2) (v .3) (v .4) (v .5)
+          _ _ (tell .result .stm) (tell .result .written) (tell .last .1 .1 .0) which long (tell .ensures .0) (tell .ensures .1 .0) (tell .ensures .1 .1 .0) (tell .ensures .1 .1 .1),
       goes-on (now (a .bytes)) (now (a .output)) (o .loop .output) (a .all) _ (a .stm) (o .loop .stm) (o .loop .used) (o .loop .written) (o .loop .i) _
-      (c .before .before .before .before .before .before .before .before .before .before .before .before .before .loop-test .taken) (v .1) (v .2) (v .3) (v .4) (v .5)
-      _ _ (tell .result .stm) (tell .result .written) (tell .last .1 .1 .0) which long (tell .ensures .0) (tell .ensures .1 .0) (tell .ensures .1 .1 .0) (tell .ensures .1 .1 .1) some more,
+          (c .before .before .before .before .before .before .before .before .before .before .before .before .before .loop-test .taken) (v .1) (v .2) (v .3) (v .4) (v .5)
+          _ _ (tell .result .stm) (tell .result .written) (tell .last .1 .1 .0) which long (tell .ensures .0) (tell .ensures .1 .0) (tell .ensures .1 .1 .0) (tell .ensures .1 .1 .1) some more,
     )
 
 same-length-3 : tie.Need-same-length-3 Inv-loop μ-loop
