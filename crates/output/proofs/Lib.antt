@@ -1,3 +1,4 @@
+pub mod Ends
 pub mod Example
 pub mod Promises
 pub mod Rooms

@@ -22,7 +22,7 @@ pub all-has-room : AllHasRoom
 unfolding givenOf
 all-has-room all bytes h = enough (outputRoom / lineWidth) (suc (length bytes)) all bytes (omega arith) (omega arith)
 
-lines-from : (stm : Stm) (ps : List (List ℕ)) → textBy lines stm ps ≡ flatMap lineAt (moments stm (map send ps))
+pub lines-from : (stm : Stm) (ps : List (List ℕ)) → textBy lines stm ps ≡ flatMap lineAt (moments stm (map send ps))
 unfolding textBy flatMap moments
 lines-from stm [] = refl
 lines-from stm (p ∷ ps) = rw (lines-from (stateAfter stm (send p)) ps)

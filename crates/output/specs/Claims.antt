@@ -2,19 +2,37 @@
 use Prim.Native.Nat.{ℕ, _≤_}
 use mathlib.Core.Path.{_≡_}
 use mathlib.Core.Bool.{Bool, true, false, cond}
-use mathlib.Core.List.{List, [], _++_, map, flatMap, flatten}
+use mathlib.Core.Option.{Option, none, some}
+use mathlib.Core.List.{List, [], _∷_, _++_, map, flatMap, flatten, List·Memᴰ}
 use lib.ListN.{length, take, drop}
 use Rattle.wire.specs.Bytes.{placed}
+use Rattle.wire.specs.Form.{reportLength, refusalTo}
+use Rattle.wire.specs.Split.{restRefusal}
 use Rattle.portions.specs.Portions.{givenOf, portionsOf}
 use Rattle.portions.specs.Reads.{Standing, textBy, atFirst, turnOf, afterReads, afterEnd}
 use Rattle.rules.specs.Commands.{freshStm}
 use Rattle.rules.specs.Runs.{moments, send}
 use Rattle.rules.specs.declared.Stm.{Stm}
+use Rattle.line.specs.Lines.{decimalOf, lineFeed}
 use Rattle.output.specs.Streams.{lineAt, lines, streamOf, handedOn, givenIn, inputRoom, outputRoom}
 
 -- the output is a line for each moment of the run of the portions: all that is promised of runs holds of it
 abbrev pub LinesOfMoments : Type 0
 LinesOfMoments = (input : List ℕ) → streamOf input ≡ flatMap lineAt (moments freshStm (map send (portionsOf input)))
+
+-- the line of a refusal of the rest that ends a stream, in 01's numbers
+abbrev pub endLine : Option ℕ → List ℕ
+endLine none = []
+endLine (some refusal) = decimalOf refusal ++ (lineFeed ∷ [])
+
+-- "refusal 3 or 4, or an empty rest, ends it": commands that pass refusals 1 to 4, and a rest that has none or is empty, give a line
+-- for each command and then the refusal of the rest, or no more
+abbrev pub EndsAsSaid : Type 0
+EndsAsSaid =
+    (commands : List (List ℕ)) (rest : List ℕ)
+    → ((c : List ℕ) → List·Memᴰ c commands → refusalTo c reportLength ≡ none)
+    → (restRefusal rest ≡ none → rest ≡ [])
+    → streamOf (flatten commands ++ rest) ≡ flatMap lineAt (moments freshStm (map send commands)) ++ endLine (restRefusal rest)
 
 -- however the input is cut into reads, what is written for them, put together, is the output of the whole input
 abbrev pub WritesTheStream : Type 0
