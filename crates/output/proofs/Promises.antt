@@ -1,14 +1,13 @@
 -- The promises of the stream program's output. Assumes nothing.
 use Prim.Native.Nat.{ℕ, suc, _/_}
-use mathlib.Core.Path.{_≡_, refl, sym, ap, ap₂, _∙_}
-use mathlib.Core.Bool.{Bool, true, false}
-use mathlib.Core.List.{List, [], _∷_, _++_, map, flatMap, flatten}
+use mathlib.Core.Path.{_≡_, refl, ap}
+use mathlib.Core.List.{List, [], _∷_, map, flatMap}
 use native.Mathlib.Omega.{arith}
-use lib.ListN.{length, take, drop}
+use lib.ListN.{length, drop}
 use lib.Seq.{take-append-seam}
 use Rattle.wire.specs.Bytes.{placed}
 use Rattle.portions.specs.Portions.{givenOf, leftOf, portionsOf}
-use Rattle.portions.specs.Reads.{Standing, textBy, stateBy, turnOf}
+use Rattle.portions.specs.Reads.{textBy, turnOf}
 use Rattle.portions.proofs.Giving.{enough}
 use Rattle.portions.proofs.Reading.{cut-anyhow, ended-anyhow, written-is-a-beginning}
 use Rattle.rules.specs.Commands.{freshStm}

@@ -1,12 +1,11 @@
 -- A turn of `hand_on`'s loop: what is handed on and what is ahead. Assumes nothing.
 use Prim.Native.Nat.{ℕ, suc, _+_, _-_, _*_, _≤_, _<_}
-use mathlib.Core.Path.{_≡_, refl, sym, ap, ap₂, subst, _∙_}
+use mathlib.Core.Path.{_≡_, sym, ap, ap₂, subst, _∙_}
 use mathlib.Core.Bool.{Bool, true, false}
 use mathlib.Core.List.{List, [], _++_}
 use native.Mathlib.Omega.{arith}
-use lib.ListN.{length, take, drop, length-drop}
+use lib.ListN.{length, take, drop, take-append-drop}
 use lib.Seq.{length-take-le, drop-drop}
-use lib.ListN.{take-append-drop}
 use borrow.Author.Tests.{le-ltb}
 use Rattle.wire.specs.Bytes.{placed}
 use Rattle.portions.specs.declared.next.Portion.{Portion}

@@ -3,13 +3,11 @@ use Prim.Native.Nat.{ℕ}
 use mathlib.Core.Path.{_≡_, refl, sym, ap, _∙_}
 use mathlib.Core.Bool.{Bool, true, false}
 use mathlib.Core.Option.{none, some}
-use mathlib.Core.List.{List, [], _∷_, _++_, append-assoc, flatten, List·Memᴰ, List·Memᴰ·head, List·Memᴰ·tail}
+use mathlib.Core.List.{List, [], _∷_, _++_, append-assoc, flatten, List·Memᴰ·head, List·Memᴰ·tail}
 use native.Mathlib.Omega.{arith}
-use lib.ListN.{length, take, drop}
+use lib.ListN.{length, take}
 use lib.Seq.{take-append-seam, drop-append-seam, take-length, length-take-le, getD-take}
-use borrow.Author.Tests.{ne-eqb}
 use Rattle.wire.specs.declared.form.Form.{Form}
-use Rattle.portions.specs.declared.next.Portion.{Portion}
 use Rattle.wire.specs.declared.split.Next.{Next}
 use Rattle.portions.specs.Claims.{CommandsGiven, NoCodeEnds, ShortWaits}
 use Rattle.wire.specs.Form.{reportLength, formOf, refusalTo, refusalOf}

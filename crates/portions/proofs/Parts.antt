@@ -1,10 +1,10 @@
 -- Parts of bytes, and a part brought to the front. Assumes nothing.
 use Prim.Native.Nat.{ℕ, zero, suc, _+_, _-_, _<_, _≤_, min}
-use mathlib.Core.Path.{_≡_, refl, sym, ap, ap₂, _∙_}
+use mathlib.Core.Path.{_≡_, sym, ap, _∙_}
 use mathlib.Core.List.{List, [], _∷_, _++_}
 use native.Mathlib.Omega.{arith}
 use native.Mathlib.Nat.{zero-add, suc-add}
-use lib.ListN.{length, take, drop, set, getD, length-take, length-drop, length-append, drop-of-length-le}
+use lib.ListN.{length, take, drop, set, getD, length-take, length-drop, drop-of-length-le}
 use lib.Seq.{length-take-le, take-all, take-nil, drop-nil, getD-append-add, getD-drop, getD-take, slice}
 use Rattle.laws.proofs.Lists.{copy-step}
 

@@ -7,7 +7,7 @@ use native.Mathlib.Omega.{arith}
 use lib.ListN.{length}
 use Rattle.portions.specs.Claims.{CutAnyhow, EndedAnyhow, WrittenIsABeginning}
 use Rattle.portions.specs.Portions.{givenOf, leftOf, portionsOf}
-use Rattle.portions.specs.Reads.{Writer, textBy, stateBy, Standing, atFirst, turnOf, afterRead, afterReads, afterEnd}
+use Rattle.portions.specs.Reads.{Writer, textBy, stateBy, atFirst, turnOf, afterRead, afterReads, afterEnd}
 use Rattle.portions.proofs.Giving.{given-over, given-joined, left-joined, empty-ends, all-ended}
 
 module _ {X : Type 0} (w : Writer X) where

@@ -1,4 +1,4 @@
--- Equal bytes, and copied bytes.
+-- Equal bytes, copied bytes, and bytes put at the front of an area.
 use Prim.Native.Nat.{ℕ}
 use mathlib.Core.Bool.{Bool, true, false, cond}
 use mathlib.Core.List.{List, [], _∷_, _++_}

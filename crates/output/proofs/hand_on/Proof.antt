@@ -1,6 +1,6 @@
 -- `output::hand_on` meets its contract. The loop's invariant: what is handed on and what is ahead make up the whole, the lines so far
 -- stand at the front of the output, and behind them is room for as many of the longest as may still come.
-use Prim.Native.Nat.{_+_, _-_, _*_, _≤_, suc}
+use Prim.Native.Nat.{_+_, _-_, _*_, _≤_}
 use mathlib.Core.Path.{_≡_, refl, sym, ap, _∙_}
 use mathlib.Core.Bool.{true, false}
 use native.Mathlib.Nat.{sub-zero}
@@ -8,7 +8,6 @@ use native.Mathlib.Omega.{arith}
 use denote.Ref.{now}
 use lib.ListN.{length, take, drop}
 use lib.Seq.{length-take-le}
-use borrow.Author.Needs.{needs}
 use Rattle.portions.specs.Portions.{portionLength, givenWithin}
 use Rattle.portions.proofs.Giving.{portion-fits}
 use Rattle.portions.proofs.Handing.{Ahead, ahead-first}

@@ -1,15 +1,12 @@
 -- `output::turn` meets its contract: there is room for every line.
-use Prim.Native.Nat.{_≤_}
-use mathlib.Core.Path.{_≡_, ap, _∙_}
+use mathlib.Core.Path.{_≡_, _∙_}
 use native.Mathlib.Omega.{arith}
 use denote.Ref.{now}
 use lib.Dec.{eqb}
 use lib.ListN.{length, take, length-take}
 use borrow.Author.Needs.{needs}
-use Rattle.wire.specs.Bytes.{placed}
 use Rattle.portions.specs.Portions.{givenOf}
-use Rattle.portions.specs.Reads.{textBy}
-use Rattle.output.specs.Streams.{lines, handedOn, givenIn, inputRoom, outputRoom}
+use Rattle.output.specs.Streams.{givenIn, inputRoom, outputRoom}
 use Rattle.output.proofs.Promises.{all-has-room}
 use Rattle.output.proofs.turn.Statement.{statement}
 use Rattle.output.proofs.turn.Tie as tie

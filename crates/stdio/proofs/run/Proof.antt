@@ -1,12 +1,12 @@
 -- `stdio::run` is safe and ends: the turns that are left fall. From turn to turn fewer bytes are left than the longest command has: so
 -- there is always room to read, and a read that brings none is the end.
 use Prim.Native.Nat.{_<_}
-use mathlib.Core.Path.{_≡_, refl, sym, ap, subst, _∙_}
+use mathlib.Core.Path.{_≡_, sym, ap, _∙_}
 use mathlib.Core.Bool.{Bool, true, false, false≢true}
-use mathlib.Core.List.{List, flatten}
+use mathlib.Core.List.{List}
 use native.Mathlib.Omega.{arith}
 use lib.Dec.{eqb}
-use lib.ListN.{length, take, drop}
+use lib.ListN.{length, take}
 use borrow.Author.Needs.{needs}
 use Rattle.wire.specs.Codes.{longest}
 use Rattle.portions.specs.Portions.{givenOf, leftOf}

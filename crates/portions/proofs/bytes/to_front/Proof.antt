@@ -1,7 +1,7 @@
 -- `portions::bytes::to_front` meets its contract. The loop's invariant: the part's bytes stand before `i`, and from there on what
 -- stood there. Assumes nothing.
 use Prim.Native.Nat.{_≤_, _-_, min}
-use mathlib.Core.Path.{_≡_, refl, sym, ap, _∙_}
+use mathlib.Core.Path.{_≡_, refl, ap, _∙_}
 use mathlib.Core.List.{_++_}
 use native.Mathlib.Omega.{arith}
 use denote.Ref.{now}

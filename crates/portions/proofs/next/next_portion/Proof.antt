@@ -1,5 +1,5 @@
 -- `portions::next::next_portion` meets its contract. Assumes nothing.
-use mathlib.Core.Path.{sym, _∙_}
+use mathlib.Core.Path.{sym}
 use borrow.Author.Needs.{needs}
 use Rattle.portions.specs.Portions.{portionAt, nextPortion}
 use Rattle.portions.proofs.next.next_portion.Statement.{statement}
