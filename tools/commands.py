@@ -62,7 +62,7 @@ GRADIENT = Unit("‰", {"": 1, "‰": 1}, "", "‰")
 class Operand(NamedTuple):
     """An operand. `ranges` has the first and last value of each range; a name in place of a last value is an operand
     that it goes up to. `words` are words for values, `bits` a word for each bit from 0. `default` is what stands where a
-    trip doesn't say it (None: it has to be said), or the name of a rule in tools/text.py. An operand that `stands_when`
+    trip doesn't say it (None: it has to be said), or names one of tools/text.py's RULES. An operand that `stands_when`
     another has one of some values shares its place with those of the other values. `read` shows it in tools/read, which
     leaves it out at `quiet`."""
 

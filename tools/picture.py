@@ -140,7 +140,7 @@ class Picture:
         return LEFT + PLOT_WIDTH * min(ground / 100 / self.metres, 1)
 
     def y(self, speed):
-        return self.top + PLOT_HEIGHT * (1 - speed / self.speeds)
+        return self.top + PLOT_HEIGHT * (1 - min(speed / self.speeds, 1))
 
     # ---- from above: title, legend, marks, plot, list
 

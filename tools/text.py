@@ -73,11 +73,13 @@ def span_of(operand, text):
 
 
 def check(operand, value, values, force, shown=None):
+    """That a figure is in range or, under force, that its bytes can carry it."""
     shown = f"{operand.name}={value if shown is None else shown}"
     low, high = operand.limits()
-    if not low <= value <= high:
+    fits = low <= value <= high
+    if not fits and (force or operand.ranges == ((low, high),)):
         raise Wrong(f"{shown} does not fit into its {operand.bytes} byte{'s' * (operand.bytes > 1)}")
-    if not operand.allows(value, values) and not force:
+    if not force and not operand.allows(value, values):
         unit = f" {operand.unit.name}" if operand.unit.name else ""
         raise Wrong(f"{shown} is out of range: {operand.range_text()}{unit}")
 
@@ -91,6 +93,8 @@ def command_of(words):
         command = WORDS.get(" ".join(words[:count]).lower())
         if command and len(words) >= count:
             return command, words[count:]
+    if words[0].isdigit():
+        raise Wrong(f"'{words[0]}' is no command; '{words[0]} x' before a command takes it so often")
     raise Wrong(f"'{words[0]}' is no command; there are {said(c.word for c in COMMANDS)}, 'again' and 'hex'")
 
 
@@ -141,9 +145,8 @@ def chosen(command, spans):
     return spans
 
 
-def tenth(speed):
-    """The ground of a tenth of a second, in whole centimetres."""
-    return speed // 10
+# Defaults that go by the other operands: the ground of a tenth of a second, in whole centimetres.
+RULES = {"a tenth of a second at the speed": lambda values: values["speed"] // 10}
 
 
 def values_of(command, spans, turn, turns, force):
@@ -153,10 +156,10 @@ def values_of(command, spans, turn, turns, force):
         if operand.name in spans:
             first, last, _ = spans[operand.name]
             values[operand.name] = first + (last - first) * turn // max(turns - 1, 1)
-        elif isinstance(operand.default, int):
+        elif operand.default in RULES:
+            values[operand.name] = RULES[operand.default](values)
+        elif operand.default is not None:
             values[operand.name] = operand.default
-    if command.word == "report" and "moved" not in spans:
-        values["moved"] = tenth(values["speed"])
     standing = command.standing(values)
     missing = [operand.name + ("" if operand.bare else "=") for operand in standing if operand.name not in values]
     if missing:
