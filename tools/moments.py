@@ -124,6 +124,14 @@ def lines_from(name):
         raise Unreadable("this is no text") from None
 
 
+def is_text(content):
+    """Lines that can be printed. The numbers of a stream have bytes that can't."""
+    try:
+        return content.endswith(b"\n") and all(line.isprintable() for line in content.decode().expandtabs().splitlines())
+    except UnicodeDecodeError:
+        return False
+
+
 def run(stream, program=PROGRAM):
     """What the stream program writes."""
     if not os.path.exists(program):
@@ -144,6 +152,8 @@ def moments_from(name, output=None, program=PROGRAM):
                 stream += sent.raw
         else:
             stream = bytes_from(name)
+            if is_text(stream):
+                raise Unreadable(f"this is text, and the name of a trip ends in {TRIP}")
     except Mistake as mistake:
         raise Unreadable(mistake) from None
     told = lines_from(output) if output else run(stream, program).splitlines()
