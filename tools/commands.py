@@ -4,11 +4,8 @@ A new command, operand, flag, answer or report field is a new row here. `tests/t
 with docs/COMMANDS.md and with the recorded runs.
 """
 
-import sys
 from fractions import Fraction
 from typing import Any, NamedTuple
-
-sys.dont_write_bytecode = True  # the tools leave no files beside themselves
 
 LAST_NUMBER = 0xFFFFFFFF
 HEAD = 5  # a code byte and a number of four
@@ -85,6 +82,10 @@ class Operand(NamedTuple):
         size = 1 << 8 * self.bytes
         return (-size // 2, size // 2 - 1) if self.signed else (0, size - 1)
 
+    def stands(self, values):
+        """Whether it stands in a command with these values."""
+        return self.stands_when is None or values.get(self.stands_when[0]) in self.stands_when[1]
+
     def allows(self, value, values):
         return any(low <= value <= values.get(high, 0) if isinstance(high, str) else low <= value <= high
                    for low, high in self.ranges)
@@ -134,8 +135,7 @@ class Command(NamedTuple):
 
     def standing(self, values):
         """The operands that stand in a command with these values."""
-        return [operand for operand in self.operands
-                if operand.stands_when is None or values.get(operand.stands_when[0]) in operand.stands_when[1]]
+        return [operand for operand in self.operands if operand.stands(values)]
 
     def length(self, values=None):
         values = {operand.name: 0 for operand in self.operands} if values is None else values
@@ -151,7 +151,7 @@ class Command(NamedTuple):
         """The operands of a whole command, by name."""
         values, at = {}, HEAD
         for operand in self.operands:
-            if operand.stands_when is None or values.get(operand.stands_when[0]) in operand.stands_when[1]:
+            if operand.stands(values):
                 values[operand.name] = int.from_bytes(raw[at:at + operand.bytes], "big", signed=operand.signed)
                 at += operand.bytes
         return values

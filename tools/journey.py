@@ -79,12 +79,13 @@ class Journey:
         self.counted += 1
         self.ground += values["moved"]
         self.speed = values["speed"] * KMH
-        before = (1 << len(BUTTONS.bits)) - 1 if self.buttons is None else self.buttons
         for bit, name in enumerate(BUTTONS.bits):
-            now, then = values["buttons"] >> bit & 1, before >> bit & 1
+            first = 0 if name in LEFT else 1  # before the first report a press counts as standing already
+            then = first if self.buttons is None else self.buttons >> bit & 1
+            now = values["buttons"] >> bit & 1
             if now > then:
                 self.mark("press", PRESSED[name])
-            if now < then and self.buttons is not None and name in LEFT:
+            if now < then and name in LEFT:
                 self.mark("press", LEFT[name])
         self.buttons = values["buttons"]
 
@@ -101,11 +102,11 @@ class Journey:
             return
         first, count = self.run[0], len(self.run)
         if first.is_again:
-            ground = first.portion.values.get("moved", 0) if first.portion.command.name == "odometer" else 0
+            ground = first.portion.values.get("moved", 0)
             self.again += count
             self.again_ground += count * ground
             often = "once" if count == 1 else "twice" if count == 2 else f"{count} times"
-            told = f"; {count * ground / 100:,.2f} m not counted again" if ground else ""
+            told = f"; {count * ground / 100:,.2f} m that move nothing" if ground else ""
             self.mark("again", f"{command_text(first.portion)}: sent again {often}{told}")
         else:
             self.refused += count
@@ -117,9 +118,9 @@ class Journey:
         self.events.append(Event(self.ground, kind, text))
 
     def summary(self):
-        text = f"Ground counted: {self.ground / 100:,.2f} m in {self.counted:,} reports."
+        text = f"{self.counted:,} accepted reports, {self.ground / 100:,.2f} m of ground."
         if self.again:
-            text += f" Sent again: {self.again:,} commands ({self.again_ground / 100:,.2f} m), which count nothing."
+            text += f" Sent again: {self.again:,} commands ({self.again_ground / 100:,.2f} m), which move nothing."
         if self.refused:
             text += f" Refused: {self.refused:,}."
         return text

@@ -132,14 +132,22 @@ def is_text(content):
         return False
 
 
-def run(stream, program=PROGRAM):
+def write_to(name, content):
+    try:
+        with open(name, "wb") as file:
+            file.write(content)
+    except OSError as reason:
+        raise Unreadable(f"{name} can't be written: {reason.strerror}") from None
+
+
+def run(stream):
     """What the stream program writes."""
-    if not os.path.exists(program):
+    if not os.path.exists(PROGRAM):
         raise Unreadable("the stream program is not built: `rt check stream` builds it")
-    return subprocess.run([program], input=stream, stdout=subprocess.PIPE, check=True).stdout.decode()
+    return subprocess.run([PROGRAM], input=stream, stdout=subprocess.PIPE, check=True).stdout.decode()
 
 
-def moments_from(name, output=None, program=PROGRAM):
+def moments_from(name, output=None):
     """The moments of a trip (a file whose name ends in .trip) or of a stream of bytes, with its title. The output is read
     from a file, or the program is run."""
     title, lines = "", {}
@@ -156,5 +164,5 @@ def moments_from(name, output=None, program=PROGRAM):
                 raise Unreadable(f"this is text, and the name of a trip ends in {TRIP}")
     except Mistake as mistake:
         raise Unreadable(mistake) from None
-    told = lines_from(output) if output else run(stream, program).splitlines()
-    return moments_of(portions_of(stream, lines), "\n".join(told)), title
+    told = bytes_from(output).decode(errors="replace") if output else run(stream)
+    return moments_of(portions_of(stream, lines), told), title

@@ -135,14 +135,13 @@ def number_of(text):
     return int(text)
 
 
-def chosen(command, spans):
-    """An operand that stands only with some values of another says that value, if the line doesn't."""
+def choose(command, spans):
+    """An operand that stands only with some values of another says the first of them, if the line doesn't."""
     for operand in command.operands:
         if operand.name in spans and operand.stands_when:
             other, values = operand.stands_when
             if other not in spans:
                 spans[other] = (values[0], values[0], str(values[0]))
-    return spans
 
 
 # Defaults that go by the other operands: the ground of a tenth of a second, in whole centimetres.
@@ -150,7 +149,7 @@ RULES = {"a tenth of a second at the speed": lambda values: values["speed"] // 1
 
 
 def values_of(command, spans, turn, turns, force):
-    """The operands of the turn-th of so many commands; and whether one is out of range."""
+    """The operands of the turn-th of so many commands, each in range or forced."""
     values = {}
     for operand in command.operands:
         if operand.name in spans:
@@ -233,7 +232,7 @@ class Trip:
                     raise Wrong(f"{name}={text} goes from one figure to another: that takes '2 x' or more")
         if number == 0 and not force:
             raise Wrong("number=0 is out of range: 1 to 4,294,967,295")
-        chosen(command, spans)
+        choose(command, spans)
         made = []
         for turn in range(turns):
             values = values_of(command, spans, turn, turns, force)
