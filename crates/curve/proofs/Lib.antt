@@ -1,4 +1,6 @@
+pub mod Changes
 pub mod Figures
+pub mod Ground
 pub mod Halving
 pub mod Held
 pub mod Line

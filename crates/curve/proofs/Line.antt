@@ -47,7 +47,7 @@ mag-difference x y n h k = by (decLe y x)
     by (no p) = rw (difference-down x y (omega arith)) (omega arith)
 
 -- two tests that pass together are one
-leb-same : (m n m′ n′ : ℕ) → (m ≤ n → m′ ≤ n′) → (m′ ≤ n′ → m ≤ n) → leb m n ≡ leb m′ n′
+pub leb-same : (m n m′ n′ : ℕ) → (m ≤ n → m′ ≤ n′) → (m′ ≤ n′ → m ≤ n) → leb m n ≡ leb m′ n′
 leb-same m n m′ n′ h k = by (leb m′ n′) refl
   where
     by : (t : Bool) → leb m′ n′ ≡ t → leb m n ≡ t

@@ -46,7 +46,7 @@ idle true t r h = rw (h refl)
 idle false t r h = refl
 
 -- the target is under a speed that is above the floor
-above-target : (curve : Curve) (u : ℕ) → isAbove u curve ≡ true → targetOf curve < u
+pub above-target : (curve : Curve) (u : ℕ) → isAbove u curve ≡ true → targetOf curve < u
 unfolding isAbove targetOf
 above-target curve u e = lt-of-le-of-lt (target-below-floor (curve .kind) (curve .speed)) (ltb-true (250 * curve .speed) u e)
 
@@ -71,7 +71,7 @@ module _ {curve curve′ : Curve} (stricter : Stricter curve curve′) where
   target-no-higher = rw (stricter .kind) (target-kept (curve .kind) (curve .speed) (curve′ .speed) (stricter .speed))
 
   module _ (share parts : ℕ) {u u′ level level′ lead lead′ : ℕ} (hu : u ≤ u′) (hl : level′ ≤ level) (ht : lead ≤ lead′) where
-    line-stricter : targetOf curve′ ≤ u′ → lineFor curve level share u parts lead ≡ true → lineFor curve′ level′ share u′ parts lead′ ≡ true
+    pub line-stricter : targetOf curve′ ≤ u′ → lineFor curve level share u parts lead ≡ true → lineFor curve′ level′ share u′ parts lead′ ≡ true
     unfolding lineFor
     line-stricter floor =
         line-kept share hu target-no-higher floor (decelerates-less level level′ hl) (mul-le-mul-left parts (stricter .distance)) ht

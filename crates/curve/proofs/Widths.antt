@@ -1,6 +1,6 @@
 -- How large the figures of a curve can be, by the widths that they are held in. Assumes nothing.
 use Prim.Native.Nat.{ℕ, _*_, _≤_}
-use native.Mathlib.Nat.{le-trans, mul-le-mul}
+use native.Mathlib.Nat.{le-trans, mul-le-mul, mul-le-mul-left}
 use native.Mathlib.Omega.{arith}
 use lib.Dec.{lit≤}
 use Rattle.curve.specs.Deceleration.{onGradient, decelerationOf}
@@ -33,3 +33,9 @@ lead-within u lead h k = le-trans (mul-le-mul h k) (lit≤ tt)
 
 pub ground-within : (parts distance : ℕ) → parts ≤ 255 → distance ≤ 4294967295 → parts * distance ≤ 1099511627776
 ground-within parts distance h k = le-trans (mul-le-mul h k) (lit≤ tt)
+
+pub square-within : (u : ℕ) → u ≤ 16777215 → u * u ≤ 281474943156225
+square-within u h = le-trans (mul-le-mul h h) (lit≤ tt)
+
+pub led-within : (b lead : ℕ) → b ≤ 67830 → lead ≤ 1099511627776 → 81 * b * lead ≤ 6040969770675732480
+led-within b lead h k = le-trans (mul-le-mul (mul-le-mul-left 81 h) k) (lit≤ tt)

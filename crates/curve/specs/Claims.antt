@@ -1,12 +1,14 @@
 -- What holds of every curve, for any lead: statements, proved in proofs/.
 use mathlib.Core.Path.{_≡_}
-use Prim.Native.Nat.{ℕ, _*_, _≤_, _<_, min}
+use Prim.Native.Nat.{ℕ, suc, _*_, _≤_, _<_, min}
 use mathlib.Core.Bool.{true, false}
+use mathlib.Core.Logic.{_⊎_}
 use Rattle.curve.specs.Deceleration.{decelerationOf}
 use Rattle.curve.specs.Boundary.{isReached, isReachedF, isReachedAtKmh}
 use Rattle.curve.specs.Intervals.{intervalOf, rankOf}
 use Rattle.curve.specs.Permitted.{permittedOf}
-use Rattle.curve.specs.Judging.{brakesAt, judgedOf}
+use Rattle.curve.specs.Judging.{movedBy, brakesAt, judgedOf}
+use Rattle.curve.specs.Changes.{never, reachOf, reachOfF, toChange}
 use Rattle.curve.specs.declared.Curve.{Curve}
 use Rattle.curve.specs.declared.Leads.{Leads}
 use Rattle.curve.specs.declared.Braking.{Braking}
@@ -117,3 +119,47 @@ PermittedIsLargest =
 -- it is not below the target or the release speed, up to 300
 abbrev pub PermittedIsNotBelowFloor : Type 0
 PermittedIsNotBelowFloor = (curve : Curve) (level T : ℕ) → min 300 (curve .speed) ≤ permittedOf curve level T
+
+-- ---- how far to a change (02, F-1)
+
+-- something stays as it is for n centimetres of the distance: up to n, and not at one more; or it stays so down to distance 0, and n
+-- is FFFFFFFF. Of a distance that four bytes hold, n tells which
+pub record ChangesAfter (Same : ℕ → Type 0) (distance n : ℕ) : Type 0 where
+  pub within : n < distance
+  pub stays : (m : ℕ) → m ≤ n → Same m
+  pub changes : Same (suc n) → ⊥
+
+pub record NeverChanges (Same : ℕ → Type 0) (n : ℕ) : Type 0 where
+  pub told : n ≡ never
+  pub stays : (m : ℕ) → Same m
+
+abbrev pub StaysFor : (ℕ → Type 0) → ℕ → ℕ → Type 0
+StaysFor Same distance n = ChangesAfter Same distance n ⊎ NeverChanges Same n
+
+-- "The boundary rule shall tell, besides reached or not,": what it told before is the first part
+abbrev pub ReachedAsBefore : Type 0
+ReachedAsBefore =
+    (curve : Curve) (level margin v T : ℕ)
+    → (reachOf curve level v T .reached ≡ isReached curve level v T)
+    × (reachOfF curve level margin v .reached ≡ isReachedF curve level margin v)
+
+-- the other part: for how far a boundary is not reached; 0 where it is
+abbrev pub GroundLeftIsTold : Type 0
+GroundLeftIsTold =
+    (curve : Curve) (level v T : ℕ)
+    → (isReached curve level v T ≡ true → reachOf curve level v T .left ≡ 0)
+    × (isReached curve level v T ≡ false
+    → StaysFor (λ m. isReached (movedBy curve m) level v T ≡ false) (curve .distance) (reachOf curve level v T .left))
+
+abbrev pub GroundLeftToFIsTold : Type 0
+GroundLeftToFIsTold =
+    (curve : Curve) (level margin v : ℕ)
+    → (isReachedF curve level margin v ≡ true → reachOfF curve level margin v .left ≡ 0)
+    × (isReachedF curve level margin v ≡ false
+    → StaysFor (λ m. isReachedF (movedBy curve m) level margin v ≡ false) (curve .distance) (reachOfF curve level margin v .left))
+
+-- for how far the computed interval is the same
+abbrev pub ChangeIsTold : Type 0
+ChangeIsTold =
+    (curve : Curve) (braking : Braking) (v : ℕ)
+    → StaysFor (λ m. intervalOf (movedBy curve m) braking v ≡ intervalOf curve braking v) (curve .distance) (toChange curve braking v)

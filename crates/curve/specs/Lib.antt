@@ -4,6 +4,7 @@ pub mod Boundary
 pub mod Intervals
 pub mod Permitted
 pub mod Judging
+pub mod Changes
 pub mod Places
 pub mod Claims
 pub mod Figures

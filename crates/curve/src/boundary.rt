@@ -1,10 +1,15 @@
 // The boundary rule: share × (u² − w²) ≥ 81 × b × (ground − lead), both sides signed. It is one line for
 // every use: u is a speed in 250ths of a km/h, ground and lead are in one unit, and share goes with it.
 ghost use mathlib.Core.Path.{_≡_};
-ghost use Prim.Native.Nat.{_≤_};
+ghost use mathlib.Core.Bool.{false};
+ghost use Prim.Native.Nat.{_≤_, _<_};
 ghost use Rattle.curve.specs.Boundary.{leftSide, rightSide, lineFor, targetOf, isAbove, isReached, isReachedF, isReachedAtKmh};
+ghost use Rattle.curve.specs.Judging.{movedBy};
+ghost use Rattle.curve.specs.Permitted.{largestFailing};
+ghost use Rattle.curve.specs.Changes.{never, mostBefore, reachOf, reachOfF};
 use crate::Curve;
 use crate::Kind;
+use crate::Reach;
 use crate::deceleration::deceleration_of;
 use crate::deceleration::less;
 
@@ -80,4 +85,73 @@ pub fn reached_at_kmh(curve: Curve, level: u16, k: u16, lead: u16) -> bool
 {
     let u = 250 * k as u32;
     is_above(u, curve) & line_holds(curve, level, 450, u, 90, u as u64 * lead as u64)
+}
+
+// ---- how much ground is left
+
+// What is told of a boundary that is not reached down to distance 0.
+pub const NEVER: u32 = 4294967295;
+
+// The ground that can still be covered where the line doesn't hold. It holds from the largest distance
+// on of which 810 × b times is not above 50 × (u² − w²) + 81 × b × lead.
+fn ground_left(curve: Curve, level: u16, u: u32, lead: u64) -> u32
+    requires { ⌜ (u ≤ 16777215) × (lead ≤ 1099511627776) × (targetOf curve < u) × (lineFor curve level 50 u 10 lead ≡ false) ⌝ }
+    ensures { λ r. ⌜ r ≡ largestFailing (λ n. lineFor (movedBy curve n) level 50 u 10 lead) (curve .distance) ⌝ }
+{
+    let gradient = curve.gradient;
+    let b = deceleration_of(level, gradient) as u64;
+    let u = u as u64;
+    let w = target_of(curve) as u64;
+    let reaches = (50 * (u * u - w * w) + 81 * b * lead) / (810 * b);
+    curve.distance - 1 - reaches as u32
+}
+
+// What the line tells for a curve at u above its target.
+fn line_reach(curve: Curve, level: u16, u: u32, lead: u64) -> Reach
+    requires { ⌜ (u ≤ 16777215) × (lead ≤ 1099511627776) × (targetOf curve < u) ⌝ }
+    ensures { λ r. ⌜ (r .reached ≡ lineFor curve level 50 u 10 lead) × (r .left ≡ mostBefore (λ n. lineFor (movedBy curve n) level 50 u 10 lead) (curve .distance)) ⌝ }
+{
+    if line_holds(curve, level, 50, u, 10, lead) {
+        return Reach {
+            reached: true,
+            left: 0,
+        };
+    }
+    Reach {
+        reached: false,
+        left: ground_left(curve, level, u, lead),
+    }
+}
+
+// What is told at a speed at which a boundary can't be reached.
+fn never_reached() -> Reach
+    ensures { λ r. ⌜ (r .reached ≡ false) × (r .left ≡ never) ⌝ }
+{
+    Reach {
+        reached: false,
+        left: NEVER,
+    }
+}
+
+// What the boundary rule tells at v, of the boundary with a lead.
+pub fn reach_of(curve: Curve, level: u16, v: u16, lead: u16) -> Reach
+    ensures { λ r. ⌜ r ≡ reachOf curve level v lead ⌝ }
+{
+    let u = 9 * v as u32;
+    if is_above(u, curve) {
+        return line_reach(curve, level, u, v as u64 * lead as u64);
+    }
+    never_reached()
+}
+
+// What it tells at v, of F.
+pub fn f_reach_of(curve: Curve, level: u16, margin: u8, v: u16) -> Reach
+    ensures { λ r. ⌜ r ≡ reachOfF curve level margin v ⌝ }
+{
+    let u = 9 * v as u32;
+    let less_margin = less(u, 250 * margin as u32);
+    if is_above(u, curve) & (target_of(curve) < less_margin) {
+        return line_reach(curve, level, less_margin, 0);
+    }
+    never_reached()
 }

@@ -3,6 +3,7 @@
 // Speeds v are in cm/s, limits and targets in whole km/h, distances in cm, times in tenths of a
 // second, decelerations in mm/s². Every function answers at every value of its parameters.
 mod boundary;
+mod change;
 mod deceleration;
 mod intervals;
 mod judging;
@@ -10,9 +11,13 @@ mod lead;
 mod permitted;
 mod places;
 
+pub use boundary::NEVER;
+pub use boundary::f_reach_of;
 pub use boundary::f_reached;
+pub use boundary::reach_of;
 pub use boundary::reached;
 pub use boundary::reached_at_kmh;
+pub use change::to_change;
 pub use deceleration::deceleration_of;
 pub use deceleration::gradient_from;
 pub use deceleration::level_of;
@@ -79,6 +84,13 @@ pub struct Leads {
     pub permitted: u16,
     pub b: u16,
     pub bf: u16,
+}
+
+// What the boundary rule tells: whether the boundary is reached, and how many cm can still be covered
+// with it not reached (0 where it is, `NEVER` where it is not down to distance 0).
+pub struct Reach {
+    pub reached: bool,
+    pub left: u32,
 }
 
 // What the train brings to every curve: deceleration on level track, leads, F margin in km/h.

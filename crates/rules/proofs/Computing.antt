@@ -31,7 +31,7 @@ use Rattle.rules.specs.Releases.{causesAt, addedBrakes, rollLeft, leftBr
 use Rattle.rules.specs.Odometer.{isInsufficient, seenWith, seenOf, seenIn, moves, measures}
 use Rattle.rules.specs.Odometer.{notedTrack, notes, adds, releases, supervised}
 use Rattle.rules.specs.Shows.{goesBefore, chosenOf, chosenFrom, chosen, shownAs}
-use Rattle.rules.specs.Reports.{causesNumber, messagesOf, offeredOf, isOver, shownFields}
+use Rattle.rules.specs.Reports.{causesNumber, messagesOf, offeredOf, isOver, shownFields, changeOf}
 use Rattle.rules.specs.Reports.{reportWith, reportInDA, reportOutside, reportOf}
 use Rattle.rules.specs.Commands.{freshKept, freshLast, noTrain, freshWith}
 use Rattle.rules.specs.Commands.{freshStm, stopped, padded, remembered, acceptedOf}
@@ -76,7 +76,7 @@ unfolding feedback-computes curves-compute zipWith
     causesAt addedBrakes rollLeft leftBrakes releasedBrakes sinceBy brakesBy
     isInsufficient seenWith seenOf seenIn moves measures notedTrack notes adds releases supervised
     goesBefore chosenOf chosenFrom chosen shownAs
-    causesNumber messagesOf offeredOf isOver shownFields reportWith reportInDA reportOutside reportOf
+    causesNumber messagesOf offeredOf isOver shownFields changeOf reportWith reportInDA reportOutside reportOf
     freshKept freshLast noTrain freshWith freshStm stopped padded remembered acceptedOf
     isRepeat isNext endsNothing findsNoPlace rulesFor answerOf
     callOf areaOf

@@ -31,10 +31,10 @@ module _ {A : Type 0} (held : A → Bool) (id : A → ℕ) where
   same-id n x e = eqb-true (id x) n (and-right (held x) (eqb (id x) n) e)
 
   -- of the first place and of the rest
-  differs-head : (x : A) (xs : List A) → differ held id (x ∷ xs) ≡ true → held x ≡ true → noneIs (id x) xs ≡ true
+  pub differs-head : (x : A) (xs : List A) → differ held id (x ∷ xs) ≡ true → held x ≡ true → noneIs (id x) xs ≡ true
   differs-head x xs e = if-used (held x) (noneIs (id x) xs) (and-left (not (held x) || noneIs (id x) xs) (differ held id xs) e)
 
-  differs-tail : (x : A) (xs : List A) → differ held id (x ∷ xs) ≡ true → differ held id xs ≡ true
+  pub differs-tail : (x : A) (xs : List A) → differ held id (x ∷ xs) ≡ true → differ held id xs ≡ true
   differs-tail x xs e = and-right (not (held x) || noneIs (id x) xs) (differ held id xs) e
 
   differs-cons : (x : A) (xs : List A) → (held x ≡ true → noneIs (id x) xs ≡ true) → differ held id xs ≡ true → differ held id (x ∷ xs) ≡ true

@@ -32,6 +32,7 @@ pub mod Feedback
 pub mod UnitParts
 pub mod Reporting
 pub mod Keeps
+pub mod Changes
 pub mod Monotone
 pub mod TwoTracks
 pub mod TwoSpeeds

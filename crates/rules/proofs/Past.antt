@@ -36,7 +36,7 @@ use Rattle.rules.proofs.Ground.{notedIn, noted-at, moved-at, given-same
 -- ---- at a report in DA
 
 -- the past is not asked for an interval
-interval-of-rest : (curve : Curve) (past : Interval) (stm : Stm) → intervalIn stm (notedAt curve past) ≡ intervalIn stm curve
+pub interval-of-rest : (curve : Curve) (past : Interval) (stm : Stm) → intervalIn stm (notedAt curve past) ≡ intervalIn stm curve
 unfolding intervalOf isReached isReachedF isAbove lineFor targetOf
 interval-of-rest curve past stm = refl
 
@@ -48,7 +48,7 @@ module _ (stm : Stm) (x : Sent) (place : ℕ) (e : isAccepted (answerTo stm x) �
   abbrev moved : Curve
   moved = movedBy (curveAt place stm) (readingIn (x .command) .moved)
 
-  curve-after : curveAt place after ≡ notedIn (after .train) (after .kept) moved
+  pub curve-after : curveAt place after ≡ notedIn (after .train) (after .kept) moved
   unfolding measuredAt notes measures moves movedTrack
   curve-after =
       let at = moved-at stm place held (readingIn (x .command) .moved) in

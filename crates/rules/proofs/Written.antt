@@ -11,7 +11,7 @@ use lib.ListN.{length, getD, drop}
 use borrow.Author.Tests.{eqb-true, eqb-false, ne-eqb, not-true, not-false, ltb-false, le-leb}
 use Rattle.laws.proofs.Lists.{_∈_, not-true-false}
 use Rattle.wire.specs.Numbers.{byteAt, number, highByte, lowByte}
-use Rattle.wire.proofs.Values.{bytes-read}
+use Rattle.wire.proofs.Values.{bytes-read, four-read}
 use Rattle.pressure.specs.Reference.{dropOf}
 use Rattle.curve.specs.declared.Curve.{Curve}
 use Rattle.curve.specs.declared.Interval.{Interval}
@@ -19,6 +19,7 @@ use Rattle.curve.specs.declared.Judged.{Judged}
 use Rattle.curve.specs.Deceleration.{levelOf}
 use Rattle.curve.specs.Intervals.{rankOf, shownOf, shownNumber}
 use Rattle.curve.specs.Permitted.{permittedOf}
+use Rattle.curve.specs.Changes.{never, toChange}
 use Rattle.curve.specs.Judging.{judgedOf}
 use Rattle.curve.specs.Places.{judgedHere, judgedAll}
 use Rattle.curve.proofs.Held.{held-judged, judged-held}
@@ -29,10 +30,10 @@ use Rattle.rules.specs.Speeds.{brakingOf, judgedNow, vmaxOf, permittedSp
 use Rattle.rules.specs.Table.{causes, stands, orderOf, pressedFor, isReleasable, isDropped}
 use Rattle.rules.specs.Odometer.{isInsufficient, seenIn}
 use Rattle.rules.specs.Shows.{candidate, goesBefore, chosen, shownAs, barOf, modeOf}
-use Rattle.rules.specs.Reports.{bitValue, causesNumber, messagesOf, wouldDrop, offeredOf, isOver, shownFields, two, fields, reportWith, reportInDA, reportOutside, reportFor, reportOf}
+use Rattle.rules.specs.Reports.{bitValue, causesNumber, messagesOf, wouldDrop, offeredOf, isOver, shownFields, changeOf, two, four, fields, reportWith, reportInDA, reportOutside, reportFor, reportOf}
 use Rattle.rules.specs.Commands.{withLast, remembered, acceptedOf}
 use Rattle.rules.specs.Runs.{Sent, answerTo, stateAfter, momentOf, stateAtEnd, noneAccepted, freshens}
-use Rattle.rules.specs.History.{Tells, stateIn, orderIn, causesIn, permittedIn, vmaxIn, idIn, shownIn, barIn, modeIn, messagesIn, offeredIn}
+use Rattle.rules.specs.History.{Tells, stateIn, orderIn, causesIn, permittedIn, vmaxIn, idIn, shownIn, barIn, modeIn, messagesIn, offeredIn, changeIn}
 use Rattle.rules.specs.History.{isIn, isSupervised, curveAt, Holds, brakingIn, intervalIn}
 use Rattle.rules.specs.Claims.{UpToSources}
 use Rattle.rules.specs.Columns.{isShort, IsFree}
@@ -113,14 +114,15 @@ module _ (stm : Stm) where
       ∷ fourth modeOfShown 0
       ∷ messagesOf (stm .brakes) (stm .feedback)
       ∷ offeredOf (seenIn stm) (stm .brakes .causes)
-      ∷ [])))
+      ∷ four (changeOf (stm .train) (stm .kept) shown) [])))
 
   da-fields : reportInDA stm ≡ inDA
   unfolding reportInDA reportWith shownFields
   da-fields =
-      ap (λ four. 3 ∷ orderNumber (orderOf (stm .train .softly) (stm .brakes .causes))
+      ap (λ shown. 3 ∷ orderNumber (orderOf (stm .train .softly) (stm .brakes .causes))
       ∷ two (causesNumber (stm .brakes .causes)) (two (permittedSpeed vmax judged) (two vmax
-      (four ++ (messagesOf (stm .brakes) (stm .feedback) ∷ offeredOf (seenIn stm) (stm .brakes .causes) ∷ [])))))
+      (shown ++ (messagesOf (stm .brakes) (stm .feedback) ∷ offeredOf (seenIn stm) (stm .brakes .causes)
+      ∷ four (changeOf (stm .train) (stm .kept) (chosen (stm .track .curves) judged)) [])))))
       (cond-four (shown .judged .held) (shown .curve .id) (shownNumber (shownAs shown)) (barNumber (barOf (shownAs shown)))
       (modeOfShown shown) 255 0 0 0)
 
@@ -299,7 +301,7 @@ module _ (stm : Stm) where
         rw (says-held other (held .held)) at (rw candidates at first)
 
     shows : Shows stm (inDA stm)
-    unfolding judgedOf isOver brakingOf levelOf isInsufficient dropOf shownAs
+    unfolding judgedOf isOver brakingOf levelOf isInsufficient dropOf shownAs changeOf
     shows =
         let (some-shown, among, _) = first-told curve holds in
         let (one, place, said) = Memᴰ·of-map says (stm .track .curves) among in
@@ -313,6 +315,7 @@ module _ (stm : Stm) where
           interval = field-of (λ c. shownNumber (shownAs c)) 0 one is some-shown;
           bar = field-of (λ c. barNumber (barOf (shownAs c))) 0 one is some-shown;
           mode = field-of (modeOfShown stm) 0 one is some-shown;
+          change = four-read _ _ ∙ field-of (λ c. toChange (c .curve) (brakingOf (stm .train) (stm .kept .halka)) (stm .kept .speed)) never one is some-shown;
         }
 
 -- none is shown where none is held
@@ -326,7 +329,8 @@ none-shown stm none =
     none curve (record { place = place; held = sym (held-said stm curve) ∙ ap (λ c. c .judged .held) is ∙ h }))
 
 shows-none : (stm : Stm) → shown stm .judged .held ≡ false → ShowsNone (inDA stm)
-shows-none stm e = record { id = rw e; interval = rw e; bar = rw e; mode = rw e }
+unfolding changeOf
+shows-none stm e = record { id = rw e; interval = rw e; bar = rw e; mode = rw e; change = four-read _ _ ∙ rw e }
 
 pub shown-in-da : ShownInDA
 shown-in-da stm x e d =
@@ -348,7 +352,7 @@ module _ (stm : Stm) where
     causes = bytes-read 0 _;
     permitted = bytes-read 0 _;
     vmax = bytes-read 0 _;
-    shown = record { id = refl; interval = refl; bar = refl; mode = refl };
+    shown = record { id = refl; interval = refl; bar = refl; mode = refl; change = four-read never [] };
     offered = refl;
   }
 

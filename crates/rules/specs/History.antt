@@ -88,6 +88,10 @@ messagesIn report = byteAt report 12
 abbrev pub offeredIn : List ℕ → ℕ
 offeredIn report = byteAt report 13
 
+-- 02, F-1
+abbrev pub changeIn : List ℕ → ℕ
+changeIn report = number 4 (drop 14 report)
+
 -- ---- the commands that a promise asks about
 
 -- the unit is in this state

@@ -26,6 +26,7 @@ pub mod Stops
 pub mod Rolling
 pub mod Written
 pub mod Units
+pub mod Changes
 pub mod TwoRuns
 pub mod Figures
 pub mod Pairs

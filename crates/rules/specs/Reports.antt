@@ -1,12 +1,13 @@
--- The report (01, "Report").
+-- The report (01, "Report"; 02, F-1).
 use Prim.Native.Nat.{ℕ, _+_, _^_}
 use mathlib.Core.Bool.{Bool, true, false, cond, _&&_}
 use mathlib.Core.List.{List, [], _∷_, _++_, map, foldr}
-use Rattle.wire.specs.Numbers.{highByte, lowByte}
+use Rattle.wire.specs.Numbers.{highByte, lowByte, highPair, lowPair}
 use Rattle.pressure.specs.declared.Measured.{Measured}
 use Rattle.curve.specs.declared.Judged.{Judged}
 use Rattle.curve.specs.Boundary.{isReached}
 use Rattle.curve.specs.Intervals.{shownNumber}
+use Rattle.curve.specs.Changes.{never, toChange}
 use Rattle.rules.specs.Numbers.{stateNumber, orderNumber, barNumber, modeNumber, bitNumber}
 use Rattle.rules.specs.Places.{anyOf}
 use Rattle.rules.specs.Speeds.{brakingOf, judgedNow, vmaxOf, permittedSpeed}
@@ -57,14 +58,23 @@ shownFields over insufficient shown =
     ∷ [])
     (255 ∷ 0 ∷ 0 ∷ 0 ∷ [])
 
+-- 02, F-1: "The report gains four bytes at its end with this for the shown curve, FFFFFFFF where none is shown"
+unfoldable pub changeOf : Train → Kept → Candidate → ℕ
+changeOf train kept shown =
+    cond (shown .judged .held) (toChange (shown .curve) (brakingOf train (kept .halka)) (kept .speed)) never
+
 -- "causes 2; permitted speed 2; VMAX 2", "High byte first"
 abbrev pub two : ℕ → List ℕ → List ℕ
 two x rest = highByte x ∷ lowByte x ∷ rest
 
+-- "four bytes at its end"
+abbrev pub four : ℕ → List ℕ → List ℕ
+four x rest = two (highPair x) (two (lowPair x) rest)
+
 -- the report's fields in their order
-abbrev pub fields : ℕ → ℕ → ℕ → ℕ → ℕ → List ℕ → ℕ → ℕ → List ℕ
-fields state order cause permitted vmax shown messages offered =
-    state ∷ order ∷ two cause (two permitted (two vmax (shown ++ (messages ∷ offered ∷ []))))
+abbrev pub fields : ℕ → ℕ → ℕ → ℕ → ℕ → List ℕ → ℕ → ℕ → ℕ → List ℕ
+fields state order cause permitted vmax shown messages offered change =
+    state ∷ order ∷ two cause (two permitted (two vmax (shown ++ (messages ∷ offered ∷ four change []))))
 
 -- in DA, by what the curves say and VMAX
 unfoldable pub reportWith : List Judged → ℕ → Candidate → Seen → Stm → List ℕ
@@ -74,16 +84,17 @@ reportWith judged vmax shown seen stm =
     (shownFields (isOver (stm .train) (stm .kept) shown) (isInsufficient (stm .train) (stm .feedback)) shown)
     (messagesOf (stm .brakes) (stm .feedback))
     (offeredOf seen (stm .brakes .causes))
+    (changeOf (stm .train) (stm .kept) shown)
 
 unfoldable pub reportInDA : Stm → List ℕ
 reportInDA stm =
     reportWith (judgedNow (stm .train) (stm .kept) (stm .track .curves)) (vmaxOf (stm .train) (stm .track))
     (chosen (stm .track .curves) (judgedNow (stm .train) (stm .kept) (stm .track .curves))) (seenIn stm) stm
 
--- "Outside DA order is 0 (FA: 3), id 255, messages as standing, the rest 0"
+-- "Outside DA order is 0 (FA: 3), id 255, messages as standing, the rest 0"; 02, F-1: FFFFFFFF "outside DA too"
 unfoldable pub reportOutside : State → ℕ → Stm → List ℕ
 reportOutside state order stm =
-    fields (stateNumber state) order 0 0 0 (255 ∷ 0 ∷ 0 ∷ 0 ∷ []) (messagesOf (stm .brakes) (stm .feedback)) 0
+    fields (stateNumber state) order 0 0 0 (255 ∷ 0 ∷ 0 ∷ 0 ∷ []) (messagesOf (stm .brakes) (stm .feedback)) 0 never
 
 abbrev pub reportFor : State → Stm → List ℕ
 reportFor State.DE stm = reportOutside State.DE 0 stm

@@ -1,4 +1,4 @@
--- What the bytes of a report say of the unit (01, "Report"). Proved in proofs/.
+-- What the bytes of a report say of the unit (01, "Report"; 02, F-1). Proved in proofs/.
 use mathlib.Core.Path.{_≡_}
 use Prim.Native.Nat.{ℕ, max, _≤_, _<_}
 use mathlib.Core.Bool.{Bool, true, false, cond, _||_}
@@ -11,12 +11,13 @@ use Rattle.curve.specs.declared.Shown.{Shown}
 use Rattle.curve.specs.Boundary.{isReached}
 use Rattle.curve.specs.Intervals.{rankOf, shownOf, shownNumber}
 use Rattle.curve.specs.Permitted.{permittedOf}
+use Rattle.curve.specs.Changes.{never, toChange}
 use Rattle.rules.specs.Numbers.{isAccepted, barNumber, modeNumber, bitNumber}
 use Rattle.rules.specs.Operands.{bitOf}
 use Rattle.rules.specs.Table.{stands}
 use Rattle.rules.specs.Shows.{barOf, modeOf}
 use Rattle.rules.specs.Runs.{Sent, answerTo, stateAfter, momentOf, stateAtEnd, noneAccepted, freshens}
-use Rattle.rules.specs.History.{Tells, stateIn, orderIn, causesIn, permittedIn, vmaxIn, idIn, shownIn, barIn, modeIn, messagesIn, offeredIn}
+use Rattle.rules.specs.History.{Tells, stateIn, orderIn, causesIn, permittedIn, vmaxIn, idIn, shownIn, barIn, modeIn, messagesIn, offeredIn, changeIn}
 use Rattle.rules.specs.History.{isIn, isSupervised, curveAt, Holds, brakingIn, intervalIn}
 use Rattle.rules.specs.Claims.{UpToSources}
 use Rattle.rules.specs.Ground.{namesCurve}
@@ -126,13 +127,16 @@ pub record Shows (stm : Stm) (report : List ℕ) : Type 0 where
   pub interval : shownIn report ≡ shownNumber (shownAsIn stm curve)
   pub bar : barIn report ≡ barNumber (barOf (shownAsIn stm curve))
   pub mode : modeIn report ≡ modeNumber (modeOf (isPastPermitted stm curve) (isShort stm) (shownAsIn stm curve))
+  -- 02, F-1: "four bytes at its end with this for the shown curve"
+  pub change : changeIn report ≡ toChange curve (brakingIn stm) (stm .kept .speed)
 
--- "shown id (255 none); interval (0 none ..)", "No curve: bar and mode 0"
+-- "shown id (255 none); interval (0 none ..)", "No curve: bar and mode 0"; 02, F-1: "FFFFFFFF where none is shown"
 pub record ShowsNone (report : List ℕ) : Type 0 where
   pub id : idIn report ≡ 255
   pub interval : shownIn report ≡ 0
   pub bar : barIn report ≡ 0
   pub mode : modeIn report ≡ 0
+  pub change : changeIn report ≡ never
 
 abbrev pub ShownInDA : Type 0
 ShownInDA =

@@ -1,7 +1,9 @@
-// The shown curve, its bar and its mode.
+// The shown curve, its bar and its mode, and how far to its next change.
 ghost use mathlib.Core.Path.{_≡_};
+ghost use Rattle.rules.specs.Reports.{changeOf};
 ghost use Rattle.rules.specs.Shows.{noCandidate, isLower, goesBefore, chosenOf, chosen, shownAs, computedBar, barOf, computedMode, modeOf};
 use crate::curves::free_curve;
+use crate::whole::braking_of;
 use curve::Curve;
 use curve::Interval;
 use curve::Judged;
@@ -9,7 +11,9 @@ use curve::PLACES;
 use curve::Shown;
 use rules::Bar;
 use rules::Candidate;
+use rules::Kept;
 use rules::Mode;
+use rules::Train;
 
 fn no_candidate() -> Candidate
     ensures { λ r. ⌜ r ≡ noCandidate ⌝ }
@@ -137,4 +141,17 @@ pub fn mode_of(over: bool, insufficient: bool, shown: Shown) -> Mode
         Shown::Ab => Mode::Indication,
         Shown::Computed(interval) => computed_mode(over, insufficient, interval),
     }
+}
+
+// The most cm that can still be covered with no change of the shown curve's computed interval.
+pub fn change_of(train: Train, kept: Kept, shown: Candidate) -> u32
+    ensures { λ r. ⌜ r ≡ changeOf train kept shown ⌝ }
+{
+    let judged = shown.judged;
+    if judged.held {
+        let curve = shown.curve;
+        let braking = braking_of(train, kept.halka);
+        return curve::to_change(curve, braking, kept.speed);
+    }
+    curve::NEVER
 }

@@ -10,7 +10,8 @@ ghost use Rattle.rules.specs.Speeds.{judgedNow, vmaxOf, permittedSpeed};
 ghost use Rattle.rules.specs.Table.{orderOf};
 ghost use Rattle.rules.specs.Odometer.{isInsufficient, seenIn};
 ghost use Rattle.rules.specs.Commands.{remembered};
-ghost use Rattle.rules.specs.Reports.{causesNumber, messagesOf, offeredOf, isOver, shownFields, fields, reportInDA, reportOf};
+ghost use Rattle.curve.specs.Changes.{never};
+ghost use Rattle.rules.specs.Reports.{causesNumber, messagesOf, offeredOf, isOver, shownFields, changeOf, fields, reportInDA, reportOf};
 use brakes::causes::order_of;
 use brakes::causes::would_drop;
 use brakes::seeing::is_insufficient;
@@ -35,6 +36,7 @@ use rules::State;
 use rules::Stm;
 use rules::Train;
 use track::shows::bar_of;
+use track::shows::change_of;
 use track::shows::chosen;
 use track::shows::mode_of;
 use track::shows::shown_as;
@@ -44,7 +46,9 @@ use track::whole::permitted_speed;
 use track::whole::vmax_of;
 use wire::REPORT_LENGTH;
 use wire::high;
+use wire::high_pair;
 use wire::low;
+use wire::low_pair;
 
 // The four bytes of the shown curve.
 struct Shown {
@@ -133,7 +137,7 @@ fn report_in_da(
     feedback: Measured,
     kept: Kept,
 ) -> [u8; REPORT_LENGTH]
-    ensures { λ r. ⌜ r ≡ fields (stateNumber State.DA) (orderNumber (orderOf (train .softly) (brakes .causes))) (causesNumber (brakes .causes)) (permittedSpeed vmax judged) vmax (shownFields (isOver train kept (chosen curves judged)) (isInsufficient train feedback) (chosen curves judged)) (messagesOf brakes feedback) (offeredOf seen (brakes .causes)) ⌝ }
+    ensures { λ r. ⌜ r ≡ fields (stateNumber State.DA) (orderNumber (orderOf (train .softly) (brakes .causes))) (causesNumber (brakes .causes)) (permittedSpeed vmax judged) vmax (shownFields (isOver train kept (chosen curves judged)) (isInsufficient train feedback) (chosen curves judged)) (messagesOf brakes feedback) (offeredOf seen (brakes .causes)) (changeOf train kept (chosen curves judged)) ⌝ }
 {
     let causes = brakes.causes;
     let number = causes_number(causes);
@@ -144,6 +148,9 @@ fn report_in_da(
         is_insufficient(train, feedback),
         candidate,
     );
+    let change = change_of(train, kept, candidate);
+    let first = high_pair(change);
+    let last = low_pair(change);
     [
         state_number(State::DA),
         order_number(order_of(train.softly, causes)),
@@ -159,6 +166,10 @@ fn report_in_da(
         shown.mode,
         messages_of(brakes, feedback),
         offered_of(seen, causes),
+        high(first),
+        low(first),
+        high(last),
+        low(last),
     ]
 }
 
@@ -171,7 +182,7 @@ fn order_outside(state: State) -> u8
 
 // Outside DA.
 pub fn report_outside(state: State, brakes: Brakes, feedback: Measured) -> [u8; REPORT_LENGTH]
-    ensures { λ r. ⌜ r ≡ fields (stateNumber state) (cond (isState State.FA state) 3 0) 0 0 0 (255 ∷ 0 ∷ 0 ∷ 0 ∷ []) (messagesOf brakes feedback) 0 ⌝ }
+    ensures { λ r. ⌜ r ≡ fields (stateNumber state) (cond (isState State.FA state) 3 0) 0 0 0 (255 ∷ 0 ∷ 0 ∷ 0 ∷ []) (messagesOf brakes feedback) 0 never ⌝ }
 {
     [
         state_number(state),
@@ -188,6 +199,10 @@ pub fn report_outside(state: State, brakes: Brakes, feedback: Measured) -> [u8; 
         0,
         messages_of(brakes, feedback),
         0,
+        255,
+        255,
+        255,
+        255,
     ]
 }
 

@@ -14,12 +14,18 @@ use mir.Syntax.{Width}
 use mir.Val.{Fits, SFits, bits, hbits, toZ, ofZ}
 use mir.ValLaws.{toZ-pos, toZ-ofZ, toZ-fits, half-full, pow-bits}
 use borrow.Author.Tests.{lt-ltb, le-ltb}
-use Rattle.wire.specs.Numbers.{byteAt, number, signed, highByte, lowByte}
+use Rattle.wire.specs.Numbers.{byteAt, number, signed, highByte, lowByte, highPair, lowPair}
 
 -- a field's two bytes read back
 pub bytes-read : (x : ℕ) (rest : List ℕ) → number 2 (highByte x ∷ lowByte x ∷ rest) ≡ x
 unfolding number
 bytes-read x rest = omega arith
+
+-- and a field's four
+pub four-read : (x : ℕ) (rest : List ℕ)
+    → number 4 (highByte (highPair x) ∷ lowByte (highPair x) ∷ highByte (lowPair x) ∷ lowByte (lowPair x) ∷ rest) ≡ x
+unfolding number
+four-read x rest = omega arith
 
 pos-less : (x m : ℕ) → x < m → pos x -ℤ pos m ≡ negsuc (m - suc x)
 pos-less x zero h = absurd (not-suc-le-zero h)

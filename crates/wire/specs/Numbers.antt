@@ -19,9 +19,16 @@ number (suc n) s = byteAt s 0 * 256 ^ n + number n (drop 1 s)
 unfoldable pub signed : ℕ → ℕ → ℤ
 signed m x = cond (ltb x (m / 2)) (pos x) (pos x -ℤ pos m)
 
--- 01, Report, "High byte first": the two bytes of a field of 2
+-- 01, Report, "High byte first": the two bytes of a field of 2,
 abbrev pub highByte : ℕ → ℕ
 highByte x = x / 256
 
 abbrev pub lowByte : ℕ → ℕ
 lowByte x = x % 256
+
+-- and the two pairs of bytes of a field of 4
+abbrev pub highPair : ℕ → ℕ
+highPair x = x / 65536
+
+abbrev pub lowPair : ℕ → ℕ
+lowPair x = x % 65536

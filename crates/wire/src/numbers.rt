@@ -1,7 +1,7 @@
 // Numbers of one, two and four bytes, high byte first. A byte past the end counts as 0.
 ghost use mathlib.Core.Path.{_≡_};
 ghost use lib.ListN.{drop};
-ghost use Rattle.wire.specs.Numbers.{byteAt, number, signed, highByte, lowByte};
+ghost use Rattle.wire.specs.Numbers.{byteAt, number, signed, highByte, lowByte, highPair, lowPair};
 
 pub fn byte_at(s: &[u8], at: usize) -> u8
     ensures { λ r. ⌜ r ≡ byteAt (now (s .entry)) at ⌝ }
@@ -62,4 +62,18 @@ pub fn low(x: u16) -> u8
     ensures { λ r. ⌜ r ≡ lowByte x ⌝ }
 {
     (x % 256) as u8
+}
+
+// The first two bytes of four.
+pub fn high_pair(x: u32) -> u16
+    ensures { λ r. ⌜ r ≡ highPair x ⌝ }
+{
+    (x / 65536) as u16
+}
+
+// The last two.
+pub fn low_pair(x: u32) -> u16
+    ensures { λ r. ⌜ r ≡ lowPair x ⌝ }
+{
+    (x % 65536) as u16
 }

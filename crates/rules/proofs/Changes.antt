@@ -1,0 +1,133 @@
+-- Metres to the next change: the next report bears out what a report tells. Assumes nothing.
+use mathlib.Core.Path.{_≡_, refl, sym, _∙_, ap, ap₂, subst}
+use Prim.Native.Nat.{ℕ, zero, suc, _≤_}
+use mathlib.Core.Bool.{Bool, true, false, not, _&&_}
+use mathlib.Core.Logic.{_⊎_, inl, inr}
+use mathlib.Core.List.{List, [], _∷_, List·Memᴰ·head, List·Memᴰ·tail, List·Memᴰ·not-nil}
+use native.Mathlib.Omega.{arith}
+use lib.Dec.{eqb, leb}
+use lib.ListN.{getD}
+use borrow.Author.Tests.{eq-eqb, leb-true}
+use Rattle.laws.proofs.Lists.{_∈_}
+use Rattle.wire.specs.Numbers.{byteAt}
+use Rattle.wire.specs.Form.{operandsOf}
+use Rattle.curve.specs.Intervals.{intervalOf}
+use Rattle.curve.specs.Judging.{movedBy}
+use Rattle.curve.specs.Changes.{toChange}
+use Rattle.curve.specs.Claims.{StaysFor}
+use Rattle.curve.proofs.Changes.{change-is-told}
+use Rattle.rules.specs.Numbers.{codeOf}
+use Rattle.rules.specs.Operands.{codeByte, twoAt, readingOf, odometerInRange, inRange}
+use Rattle.rules.specs.Places.{freeCurve}
+use Rattle.rules.specs.Odometer.{moves, measures, notes}
+use Rattle.rules.specs.Runs.{Sent, stateAfter, momentOf}
+use Rattle.rules.specs.History.{movedOf, changeIn, isReport, isIn, curveAt, brakingIn}
+use Rattle.rules.specs.Units.{differ, IsUnit}
+use Rattle.rules.specs.Braking.{measuredAt}
+use Rattle.rules.specs.Changes.{intervalAt, ShownAt, GoesOn, NextChangeIsTold}
+use Rattle.rules.specs.declared.Code.{Code}
+use Rattle.rules.specs.declared.State.{State}
+use Rattle.rules.specs.declared.Stm.{Stm}
+use Rattle.rules.proofs.Tests.{impossible, both, and-left, and-right}
+use Rattle.rules.proofs.Told.{code-is}
+use Rattle.rules.proofs.Answers.{passed}
+use Rattle.rules.proofs.After.{train-measured, kept-measured}
+use Rattle.rules.proofs.Claims.{all-holds}
+use Rattle.rules.proofs.Holding.{isElse, differs-head, differs-tail}
+use Rattle.rules.proofs.Keeps.{call-keeps-unit}
+use Rattle.rules.proofs.Past.{curve-after, interval-of-rest}
+use Rattle.rules.proofs.Written.{shown-in-da}
+
+-- ---- an id is held once
+
+module _ {A : Type 0} (held : A → Bool) (id : A → ℕ) where
+  at-in : (free : A) → held free ≡ false → (xs : List A) (i : ℕ) → held (getD xs i free) ≡ true → getD xs i free ∈ xs
+  at-in free none [] i h = impossible (sym none ∙ h)
+  at-in free none (x ∷ xs) zero h = List·Memᴰ·head refl
+  at-in free none (x ∷ xs) (suc i) h = List·Memᴰ·tail (at-in free none xs i h)
+
+  -- no later place holds the first one's id
+  not-later : (x : A) (xs : List A) → differ held id (x ∷ xs) ≡ true → held x ≡ true
+      → {y : A} → y ∈ xs → held y ≡ true → id y ≡ id x → ⊥
+  not-later x xs e h {y} m g same =
+      let else = all-holds (isElse held id (id x)) xs (differs-head held id x xs e h) y m in
+      impossible (sym (ap₂ (λ s t. not (s && t)) g (eq-eqb (id y) (id x) same)) ∙ else)
+
+  one-of-id : (xs : List A) → differ held id xs ≡ true → {x y : A} → x ∈ xs → y ∈ xs
+      → held x ≡ true → held y ≡ true → id x ≡ id y → x ≡ y
+  one-of-id [] e m k h g same = absurd (List·Memᴰ·not-nil m)
+  one-of-id (z ∷ xs) e (List·Memᴰ·head p) (List·Memᴰ·head q) h g same = p ∙ sym q
+  one-of-id (z ∷ xs) e (List·Memᴰ·head p) (List·Memᴰ·tail k) h g same =
+      absurd (not-later z xs e (ap held (sym p) ∙ h) k g (sym same ∙ ap id p))
+  one-of-id (z ∷ xs) e (List·Memᴰ·tail m) (List·Memᴰ·head q) h g same =
+      absurd (not-later z xs e (ap held (sym q) ∙ g) m h (same ∙ ap id q))
+  one-of-id (z ∷ xs) e (List·Memᴰ·tail m) (List·Memᴰ·tail k) h g same = one-of-id xs (differs-tail held id z xs e) m k h g same
+
+-- ---- the figure is the shown curve's
+
+module _ (stm : Stm) (x : Sent) (place : ℕ) (unit : IsUnit stm) (shown : ShownAt stm x place) where
+  abbrev after : Stm
+  after = stateAfter stm x
+
+  pub figure-of : isIn State.DA after ≡ true
+      → changeIn (momentOf stm x .area) ≡ toChange (curveAt place after) (brakingIn after) (after .kept .speed)
+  figure-of d =
+      let place-in = at-in (λ curve. curve .held) (λ curve. curve .id) freeCurve refl (after .track .curves) place (shown .held) in
+      let s = shown-in-da stm x (shown .accepted) d .0 (curveAt place after) (record { place = place-in; held = shown .held }) in
+      let one =
+      one-of-id (λ curve. curve .held) (λ curve. curve .id) (after .track .curves) (call-keeps-unit stm x unit .curveIds)
+      (s .holds .place) place-in (s .holds .held) (shown .held) (sym (s .id) ∙ shown .id) in
+      s .change ∙ ap (λ curve. toChange curve (brakingIn after) (after .kept .speed)) one
+
+-- ---- the next report
+
+module _ (stm : Stm) (y : Sent) (place : ℕ) (goes : GoesOn stm y) (held : curveAt place stm .held ≡ true) where
+  abbrev next : Stm
+  next = stateAfter stm y
+
+  kept-on : (next .kept .speed ≡ stm .kept .speed) × (next .kept .halka ≡ stm .kept .halka)
+  unfolding measuredAt notes measures moves readingOf
+  kept-on =
+      (ap (λ kept. kept .speed) (kept-measured stm y (goes .accepted) (goes .supervised)) ∙ goes .speed,
+      ap (λ kept. kept .halka) (kept-measured stm y (goes .accepted) (goes .supervised)) ∙ goes .halka)
+
+  brakes-on : brakingIn next ≡ brakingIn stm
+  unfolding measuredAt notes measures moves
+  brakes-on = rw (train-measured stm y (goes .accepted) (goes .supervised), kept-on .1)
+
+  interval-on : intervalAt place next ≡ intervalOf (movedBy (curveAt place stm) (movedOf (y .command))) (brakingIn stm) (stm .kept .speed)
+  unfolding readingOf
+  interval-on =
+      let moved = movedBy (curveAt place stm) (movedOf (y .command)) in
+      ap (λ curve. intervalOf curve (brakingIn next) (next .kept .speed)) (curve-after stm y place (goes .accepted) (goes .supervised) held)
+      ∙ interval-of-rest moved _ next
+      ∙ ap₂ (λ braking v. intervalOf moved braking v) brakes-on (kept-on .0)
+
+  -- "moved 2 (0–1,200 cm)"
+  moved-within : movedOf (y .command) ≤ 1200
+  unfolding odometerInRange
+  moved-within =
+      let s = operandsOf (y .command) in
+      let report = both (isReport (y .command)) (isIn State.DA stm) (goes .supervised) .0 in
+      let code = code-is Code.Odometer (codeOf (codeByte (y .command))) report in
+      let range = subst (λ code. inRange code s ≡ true) code (passed stm y (goes .accepted) .1 .range) in
+      let speed = leb (twoAt s 0) 10000 in
+      let moved = leb (twoAt s 2) 1200 in
+      leb-true (twoAt s 2) 1200 (and-right speed moved (and-left (speed && moved) (leb (byteAt s 8) 15) range))
+
+-- what a figure says of the centimetres that a report can move
+told-by : {Same : ℕ → Type 0} {distance n : ℕ} → StaysFor Same distance n
+    → (m : ℕ) → m ≤ 1200 → (m ≤ n → Same m) × (m ≡ suc n → Same m → ⊥)
+told-by {Same} (inl c) m h = (c .stays m, λ e s. c .changes (subst Same e s))
+told-by {Same} {distance} {n} (inr c) m h = (λ _. c .stays m, λ e s. beyond e)
+  where
+    beyond : m ≡ suc n → ⊥
+    beyond e = absurd (omega (arith, h, c .told, e))
+
+pub next-change-is-told : NextChangeIsTold
+next-change-is-told stm x y place unit shown goes =
+    let after = stateAfter stm x in
+    let d = both (isReport (y .command)) (isIn State.DA after) (goes .supervised) .1 in
+    let told = told-by (change-is-told (curveAt place after) (brakingIn after) (after .kept .speed)) (movedOf (y .command))
+    (moved-within after y place goes (shown .held)) in
+    rw (figure-of stm x place unit shown d, interval-on after y place goes (shown .held)) told

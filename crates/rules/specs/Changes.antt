@@ -1,0 +1,38 @@
+-- Metres to the next change (02, F-1), over reports: what the last four bytes of a report tell of the next one. Proved in proofs/.
+use mathlib.Core.Path.{_≡_}
+use Prim.Native.Nat.{ℕ, suc, _≤_}
+use mathlib.Core.Bool.{true}
+use Rattle.curve.specs.declared.Interval.{Interval}
+use Rattle.rules.specs.Numbers.{isAccepted}
+use Rattle.rules.specs.Runs.{Sent, answerTo, stateAfter, momentOf}
+use Rattle.rules.specs.History.{speedOf, movedOf, buttonOf, idIn, changeIn, isSupervised, curveAt, intervalIn}
+use Rattle.rules.specs.Units.{IsUnit}
+use Rattle.rules.specs.declared.Stm.{Stm}
+
+-- the computed interval of the curve at a place
+abbrev pub intervalAt : ℕ → Stm → Interval
+intervalAt place stm = intervalIn stm (curveAt place stm)
+
+-- an accepted command leaves the unit in DA, and its report shows the curve at this place
+pub record ShownAt (stm : Stm) (x : Sent) (place : ℕ) : Type 0 where
+  pub accepted : isAccepted (answerTo stm x) ≡ true
+  pub held : curveAt place (stateAfter stm x) .held ≡ true
+  pub id : idIn (momentOf stm x .area) ≡ curveAt place (stateAfter stm x) .id
+
+-- an accepted report in DA, "at its present speed" and with HALKA as it is
+pub record GoesOn (stm : Stm) (y : Sent) : Type 0 where
+  pub accepted : isAccepted (answerTo stm y) ≡ true
+  pub supervised : isSupervised stm (y .command) ≡ true
+  pub speed : speedOf (y .command) ≡ stm .kept .speed
+  pub halka : buttonOf 2 (y .command) ≡ stm .kept .halka
+
+-- "the most whole centimetres the train can still cover at its present speed with no change of that curve's computed interval": if
+-- the next report moves no more, the interval is the same, and if it moves one more, it is another
+abbrev pub NextChangeIsTold : Type 0
+NextChangeIsTold =
+    (stm : Stm) (x y : Sent) (place : ℕ)
+    → IsUnit stm → ShownAt stm x place → GoesOn (stateAfter stm x) y
+    → (movedOf (y .command) ≤ changeIn (momentOf stm x .area)
+    → intervalAt place (stateAfter (stateAfter stm x) y) ≡ intervalAt place (stateAfter stm x))
+    × (movedOf (y .command) ≡ suc (changeIn (momentOf stm x .area))
+    → intervalAt place (stateAfter (stateAfter stm x) y) ≡ intervalAt place (stateAfter stm x) → ⊥)
