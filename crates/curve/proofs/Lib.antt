@@ -1,4 +1,5 @@
 pub mod Changes
+pub mod Divided
 pub mod Figures
 pub mod Ground
 pub mod Halving

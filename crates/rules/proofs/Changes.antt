@@ -11,14 +11,16 @@ use borrow.Author.Tests.{eq-eqb, leb-true}
 use Rattle.laws.proofs.Lists.{_∈_}
 use Rattle.wire.specs.Numbers.{byteAt}
 use Rattle.wire.specs.Form.{operandsOf}
+use Rattle.curve.specs.Deceleration.{levelOf}
 use Rattle.curve.specs.Intervals.{intervalOf}
-use Rattle.curve.specs.Judging.{movedBy}
+use Rattle.curve.specs.Judging.{movedBy, judgedOf}
 use Rattle.curve.specs.Changes.{toChange}
 use Rattle.curve.specs.Claims.{StaysFor}
 use Rattle.curve.proofs.Changes.{change-is-told}
 use Rattle.rules.specs.Numbers.{codeOf}
 use Rattle.rules.specs.Operands.{codeByte, twoAt, readingOf, odometerInRange, inRange}
 use Rattle.rules.specs.Places.{freeCurve}
+use Rattle.rules.specs.Speeds.{brakingOf}
 use Rattle.rules.specs.Odometer.{moves, measures, notes}
 use Rattle.rules.specs.Runs.{Sent, stateAfter, momentOf}
 use Rattle.rules.specs.History.{movedOf, changeIn, isReport, isIn, curveAt, brakingIn}
@@ -96,11 +98,11 @@ module _ (stm : Stm) (y : Sent) (place : ℕ) (goes : GoesOn stm y) (held : curv
   brakes-on = rw (train-measured stm y (goes .accepted) (goes .supervised), kept-on .1)
 
   interval-on : intervalAt place next ≡ intervalOf (movedBy (curveAt place stm) (movedOf (y .command))) (brakingIn stm) (stm .kept .speed)
-  unfolding readingOf
+  unfolding readingOf judgedOf brakingOf levelOf
   interval-on =
       let moved = movedBy (curveAt place stm) (movedOf (y .command)) in
       ap (λ curve. intervalOf curve (brakingIn next) (next .kept .speed)) (curve-after stm y place (goes .accepted) (goes .supervised) held)
-      ∙ interval-of-rest moved _ next
+      ∙ interval-of-rest moved (intervalOf moved (brakingIn next) (next .kept .speed)) next
       ∙ ap₂ (λ braking v. intervalOf moved braking v) brakes-on (kept-on .0)
 
   -- "moved 2 (0–1,200 cm)"

@@ -49,3 +49,5 @@ pub mod Needed
 pub mod Harder
 pub mod Tables
 pub mod Cases
+pub mod ChangeFigures
+pub mod LargerFigure

@@ -75,7 +75,7 @@ pub report-kept : (stm : Stm) (x : Sent) → isAccepted (answerTo stm x) ≡ tru
 unfolding acceptedOf
 report-kept stm x e = rw (after-accepted stm x e) (remembered-report (x .command) (doneBy (x .command) stm))
 
-written-is : (stm : Stm) (x : Sent) → isAccepted (answerTo stm x) ≡ true → momentOf stm x .area ≡ reportOf (stateAfter stm x)
+pub written-is : (stm : Stm) (x : Sent) → isAccepted (answerTo stm x) ≡ true → momentOf stm x .area ≡ reportOf (stateAfter stm x)
 written-is stm x e = answer-writes-report stm x (rw e) ∙ report-kept stm x e
 
 -- ---- in DA
@@ -93,7 +93,7 @@ module _ (stm : Stm) where
   abbrev vmax : ℕ
   vmax = vmaxOf (stm .train) (stm .track)
 
-  abbrev shown : Candidate
+  abbrev pub shown : Candidate
   shown = chosen (stm .track .curves) judged
 
   abbrev fourth : (Candidate → ℕ) → ℕ → ℕ

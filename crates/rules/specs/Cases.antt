@@ -5,7 +5,7 @@ use Prim.Native.Nat.{ℕ, suc, pred, _+_, _-_, _/_, _%_, _^_}
 use mathlib.Core.Bool.{Bool, true, _&&_}
 use mathlib.Core.List.{List, [], _∷_, _++_, map, foldr}
 use lib.Dec.{eqb}
-use lib.ListN.{replicate}
+use lib.ListN.{take, replicate}
 use Rattle.wire.specs.Bytes.{sameBytes}
 use Rattle.rules.specs.Numbers.{answerNumber}
 use Rattle.rules.specs.Places.{allOf}
@@ -32,6 +32,10 @@ refused figure m = answer figure m && allOf (eqb 255) (m .area)
 
 abbrev pub written : List ℕ → Test
 written report m = sameBytes (m .area) report
+
+-- but for the last four bytes, which stand in ChangeFigures where a curve is shown
+abbrev pub begins : List ℕ → Test
+begins report m = sameBytes (take 14 (m .area)) report
 
 abbrev pub stateIs : ℕ → Test
 stateIs figure m = eqb (stateIn (m .area)) figure
@@ -155,6 +159,10 @@ abbrev pub approaches : ℕ → ℕ → ℕ → ℕ → List Command
 approaches gradient distance external buttons =
     curve 1 0 (distance / 100 + 1) 40 gradient ∷ report 2500 (100 - distance % 100) 0 external buttons ∷ []
 
+-- what leads to a report that tells something in every field
+abbrev pub everyField : List Command
+everyField = stop 1 ∷ report 1300 0 490 1000 loss ∷ proceed ∷ section 3 280 ∷ curve 9 0 3560 70 3 ∷ baliseError ∷ []
+
 -- ---- VMAX and the speeds
 
 -- a slow train in DA
@@ -222,11 +230,11 @@ stopCases =
     -- "Entering CS drops curves, sections, causes, their counters and the 40"; in DA at overspeed nothing is ordered before the
     -- next report
     ∷ after (stop 1 ∷ section 1 50 ∷ curve 1 0 0 40 0 ∷ atSpeed 3056 0 ∷ state 1 ∷ [])
-    (written (1 ∷ 0 ∷ 0 ∷ 0 ∷ 0 ∷ 0 ∷ 0 ∷ 0 ∷ 255 ∷ 0 ∷ 0 ∷ 0 ∷ 0 ∷ 0 ∷ []) ∷ [])
+    (written (1 ∷ 0 ∷ 0 ∷ 0 ∷ 0 ∷ 0 ∷ 0 ∷ 0 ∷ 255 ∷ 0 ∷ 0 ∷ 0 ∷ 0 ∷ 0 ∷ 255 ∷ 255 ∷ 255 ∷ 255 ∷ []) ∷ [])
     ∷ after (state 1 ∷ state 2 ∷ section 1 50 ∷ curve 1 0 0 40 0 ∷ atSpeed 3056 0 ∷ [])
-    (written (2 ∷ 0 ∷ 0 ∷ 0 ∷ 0 ∷ 0 ∷ 0 ∷ 0 ∷ 255 ∷ 0 ∷ 0 ∷ 0 ∷ 0 ∷ 0 ∷ []) ∷ [])
+    (written (2 ∷ 0 ∷ 0 ∷ 0 ∷ 0 ∷ 0 ∷ 0 ∷ 0 ∷ 255 ∷ 0 ∷ 0 ∷ 0 ∷ 0 ∷ 0 ∷ 255 ∷ 255 ∷ 255 ∷ 255 ∷ []) ∷ [])
     ∷ after (stop 1 ∷ section 1 50 ∷ curve 1 0 0 40 0 ∷ atSpeed 3056 0 ∷ state 1 ∷ state 2 ∷ state 3 ∷ [])
-    (written (3 ∷ 0 ∷ 0 ∷ 0 ∷ 0 ∷ 98 ∷ 0 ∷ 98 ∷ 255 ∷ 0 ∷ 0 ∷ 0 ∷ 0 ∷ 0 ∷ []) ∷ [])
+    (written (3 ∷ 0 ∷ 0 ∷ 0 ∷ 0 ∷ 98 ∷ 0 ∷ 98 ∷ 255 ∷ 0 ∷ 0 ∷ 0 ∷ 0 ∷ 0 ∷ 255 ∷ 255 ∷ 255 ∷ 255 ∷ []) ∷ [])
     ∷ []
 
 -- ---- rolling
@@ -331,14 +339,14 @@ orderCases =
 abbrev pub emergencyCases : List Case
 emergencyCases =
     after (again halts ∷ []) (stateIs 3 ∷ causesAre (5 ∷ []) ∷ messages 0 ∷ [])
-    ∷ after (halts ∷ []) (written (4 ∷ 3 ∷ 0 ∷ 0 ∷ 0 ∷ 0 ∷ 0 ∷ 0 ∷ 255 ∷ 0 ∷ 0 ∷ 0 ∷ 2 ∷ 0 ∷ []) ∷ [])
+    ∷ after (halts ∷ []) (written (4 ∷ 3 ∷ 0 ∷ 0 ∷ 0 ∷ 0 ∷ 0 ∷ 0 ∷ 255 ∷ 0 ∷ 0 ∷ 0 ∷ 2 ∷ 0 ∷ 255 ∷ 255 ∷ 255 ∷ 255 ∷ []) ∷ [])
     ∷ after (withPressure 881 ∷ []) (stateIs 4 ∷ [])
     ∷ after (withPressure 880 ∷ []) (stateIs 3 ∷ messages 0 ∷ [])
     ∷ after (withPressure 880 ∷ halts ∷ halts ∷ []) (stateIs 3 ∷ [])
     -- a second emergency cause begins nothing
     ∷ after (stop 1 ∷ halts ∷ []) (stateIs 4 ∷ [])
     -- "Outside DA order is 0 (FA: 3)": ordered by 02
-    ∷ after (state 4 ∷ []) (written (4 ∷ 3 ∷ 0 ∷ 0 ∷ 0 ∷ 0 ∷ 0 ∷ 0 ∷ 255 ∷ 0 ∷ 0 ∷ 0 ∷ 0 ∷ 0 ∷ []) ∷ [])
+    ∷ after (state 4 ∷ []) (written (4 ∷ 3 ∷ 0 ∷ 0 ∷ 0 ∷ 0 ∷ 0 ∷ 0 ∷ 255 ∷ 0 ∷ 0 ∷ 0 ∷ 0 ∷ 0 ∷ 255 ∷ 255 ∷ 255 ∷ 255 ∷ []) ∷ [])
     ∷ []
 
 -- after 30, 2, a full order, and a report
@@ -375,16 +383,8 @@ softCases =
     ∷ after (stop 2 ∷ stop 0 ∷ tooFast 1000 ∷ []) (causesAre (0 ∷ 5 ∷ 8 ∷ []) ∷ order 3 ∷ [])
     -- bit 7 is left of an unexpected stop, and bit 9 stands; VMAX is 280 (0118); curve 9 to 70 km/h, 3,550 m away and 3 ‰ uphill,
     -- is in C at 7,400 cm/s and permits 258 km/h (0102); the pressure is too high
-    ∷ after
-    (stop 1
-    ∷ report 1300 0 490 1000 loss
-    ∷ proceed
-    ∷ section 3 280
-    ∷ curve 9 0 3560 70 3
-    ∷ baliseError
-    ∷ report 7400 1000 0 1911 0
-    ∷ [])
-    (written (3 ∷ 2 ∷ 0x02 ∷ 0x80 ∷ 0x01 ∷ 0x02 ∷ 0x01 ∷ 0x18 ∷ 9 ∷ 5 ∷ 2 ∷ 3 ∷ 4 ∷ 1 ∷ []) ∷ [])
+    ∷ after (everyField ++ (report 7400 1000 0 1911 0 ∷ []))
+    (begins (3 ∷ 2 ∷ 0x02 ∷ 0x80 ∷ 0x01 ∷ 0x02 ∷ 0x01 ∷ 0x18 ∷ 9 ∷ 5 ∷ 2 ∷ 3 ∷ 4 ∷ 1 ∷ []) ∷ [])
     ∷ []
 
 -- ---- feedback
@@ -401,7 +401,7 @@ settlingCases =
     ∷ after (withPressure 1041 ∷ state 3 ∷ []) (refused 11 ∷ [])
     -- "TRYCKGIVARFEL at the last odometer report": "Below −50", "Above 955"; FF9C is −50 kPa, FF9B is −50.5
     ∷ after (withPressure 1910 ∷ []) (messages 0 ∷ [])
-    ∷ after (withPressure 1911 ∷ []) (written (0 ∷ 0 ∷ 0 ∷ 0 ∷ 0 ∷ 0 ∷ 0 ∷ 0 ∷ 255 ∷ 0 ∷ 0 ∷ 0 ∷ 4 ∷ 0 ∷ []) ∷ [])
+    ∷ after (withPressure 1911 ∷ []) (written (0 ∷ 0 ∷ 0 ∷ 0 ∷ 0 ∷ 0 ∷ 0 ∷ 0 ∷ 255 ∷ 0 ∷ 0 ∷ 0 ∷ 4 ∷ 0 ∷ 255 ∷ 255 ∷ 255 ∷ 255 ∷ []) ∷ [])
     ∷ after (withPressure 0xFF9C ∷ []) (messages 0 ∷ [])
     ∷ after (withPressure 0xFF9B ∷ []) (messages 4 ∷ [])
     ∷ after (withPressure 1911 ∷ state 1 ∷ []) (stateIs 1 ∷ messages 4 ∷ [])
@@ -574,12 +574,12 @@ placeCases =
 abbrev pub firstCases : List Case
 firstCases =
     -- 1 before 2, 3, 4 and 5
-    after (withArea 13 slowTrain ∷ []) (refused 1 ∷ [])
-    ∷ after (withArea 15 slowTrain ∷ []) (refused 1 ∷ [])
-    ∷ after (withArea 13 (bytes []) ∷ []) (refused 1 ∷ [])
+    after (withArea 17 slowTrain ∷ []) (refused 1 ∷ [])
+    ∷ after (withArea 19 slowTrain ∷ []) (refused 1 ∷ [])
+    ∷ after (withArea 17 (bytes []) ∷ []) (refused 1 ∷ [])
     ∷ after (withArea 0 (bytes (0x7F ∷ [])) ∷ []) (refused 1 ∷ [])
-    ∷ after (withArea 15 (bytes (0x02 ∷ [])) ∷ []) (refused 1 ∷ [])
-    ∷ after (withArea 13 (state 1) ∷ []) (refused 1 ∷ [])
+    ∷ after (withArea 19 (bytes (0x02 ∷ [])) ∷ []) (refused 1 ∷ [])
+    ∷ after (withArea 17 (state 1) ∷ []) (refused 1 ∷ [])
     -- 2; 3; 4 before 5
     ∷ after (bytes [] ∷ []) (refused 2 ∷ [])
     ∷ after (bytes (0x7F ∷ []) ∷ []) (refused 3 ∷ [])
@@ -654,7 +654,7 @@ laterCases =
     ∷ after (state 3 ∷ again (state 3) ∷ []) (answer 100 ∷ stateIs 3 ∷ [])
     ∷ after (curve 7 0 1000 40 0 ∷ curveEnd 7 ∷ again (curveEnd 7) ∷ []) (answer 100 ∷ [])
     ∷ after (section 7 90 ∷ sectionEnd 7 ∷ again (sectionEnd 7) ∷ []) (answer 100 ∷ [])
-    ∷ after (withArea 13 (again (state 2)) ∷ []) (refused 1 ∷ [])
+    ∷ after (withArea 17 (again (state 2)) ∷ []) (refused 1 ∷ [])
     -- the same report, again and again; the number, or a byte, of another
     ∷ after (state 3 ∷ stop 1 ∷ again (stop 1) ∷ again (stop 1) ∷ []) (answer 100 ∷ causesAre (6 ∷ 7 ∷ []) ∷ vmax 40 ∷ [])
     ∷ after (state 1 ∷ state 2 ∷ again (again (state 1)) ∷ []) (refused 7 ∷ [])

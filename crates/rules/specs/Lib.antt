@@ -32,3 +32,4 @@ pub mod Figures
 pub mod Pairs
 pub mod Tables
 pub mod Cases
+pub mod ChangeFigures

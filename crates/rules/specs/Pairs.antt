@@ -1,5 +1,5 @@
 -- Closed pairs of runs for point 3 (specs/TwoRuns): five in each of which one presumption is not met and the second run is milder
--- than the first, and one that meets them all. Their units are led from the state before any start. Proved in proofs/.
+-- than the first, and two that meet them all. Their units are led from the state before any start. Proved in proofs/.
 use Prim.Native.Nat.{ℕ}
 use mathlib.Core.List.{List, [], _∷_}
 use Rattle.rules.specs.Reports.{two}
@@ -100,4 +100,20 @@ harderPair = record {
   second = inDA 600 30 13 nearCurve;
   slower = odometer 36 1000 100 0 1000 0 ∷ odometer 36 1000 100 0 1000 0 ∷ odometer 37 2400 240 0 1000 0 ∷ [];
   faster = odometer 36 1050 100 0 1000 0 ∷ odometer 36 1050 100 0 1000 0 ∷ odometer 37 2500 240 0 1000 0 ∷ [];
+}
+
+-- for 02's F-1: at 2,500 cm/s the curve of the first is 43,325 cm away and still in C, with no centimetre left; that of the second,
+-- 1 m nearer, is in D, with 7,400
+abbrev pub in434 : List Sent
+in434 = curve 34 0 434 40 ∷ []
+
+abbrev pub in433 : List Sent
+in433 = curve 34 0 433 40 ∷ []
+
+unfoldable pub changePair : Pair
+changePair = record {
+  first = inDA 700 30 13 in434;
+  second = inDA 700 30 13 in433;
+  slower = odometer 35 2500 75 0 1000 0 ∷ [];
+  faster = odometer 35 2500 75 0 1000 0 ∷ [];
 }

@@ -14,7 +14,7 @@ use Rattle.rules.specs.Operands.{codeByte, numberOf, twoAt, bitOf}
 use Rattle.rules.specs.Places.{holdsCurve}
 use Rattle.rules.specs.Table.{stands}
 use Rattle.rules.specs.Runs.{Sent, Moment, moments, isOf}
-use Rattle.rules.specs.History.{permittedIn, orderIn, Holds, HoldsSection, intervalIn}
+use Rattle.rules.specs.History.{permittedIn, orderIn, changeIn, Holds, HoldsSection, intervalIn}
 use Rattle.rules.specs.Units.{IsUnit}
 use Rattle.rules.specs.declared.Code.{Code}
 use Rattle.rules.specs.declared.Cause.{Cause}
@@ -197,3 +197,19 @@ pub record BrakesHarder : Type 0 where
   pub answers′ : answersIn (moments w ys) ≡ (0 ∷ 100 ∷ 0 ∷ [])
   pub first : ordersIn (moments u xs) ≡ (0 ∷ 0 ∷ 0 ∷ [])
   pub second : ordersIn (moments w ys) ≡ (0 ∷ 0 ∷ 3 ∷ [])
+
+-- ---- what is not claimed
+
+-- 02, F-1: "Of two units the stricter's figure may be larger": with all that is presumed, units too, it is not so that it never is
+abbrev pub FigureMayBeLarger : Type 0
+FigureMayBeLarger =
+    ((u w : Stm) (xs ys : List Sent)
+    → Compared u w → Both Faster xs ys
+    → IsUnit u × IsUnit w
+    → Both RefusedAlike (moments u xs) (moments w ys)
+    → Both NoServiceFault (moments u xs) (moments w ys)
+    → Both NoEmergencyFault (moments u xs) (moments w ys)
+    → Both InGear xs ys
+    → UnexpectedStopAlike u w
+    → Both (λ m n. changeIn (n .area) ≤ changeIn (m .area)) (moments u xs) (moments w ys))
+    → ⊥
