@@ -3,6 +3,7 @@ use Prim.Native.Nat.{ℕ}
 use mathlib.Core.Path.{_≡_, refl, _∙_}
 use mathlib.Core.Bool.{true, false, cond}
 use mathlib.Core.List.{[], _∷_}
+use Rattle.curve.specs.Changes.{never}
 use Rattle.rules.specs.declared.State.{State}
 use Rattle.rules.specs.declared.Stm.{Stm}
 use Rattle.rules.specs.Numbers.{stateNumber, isState}
@@ -40,6 +41,6 @@ module _ (stm : Stm) where
   pub report-elsewhere : isState State.DA (stm .control .state) ≡ false
       → reportOf stm
       ≡ fields (stateNumber (stm .control .state)) (orderOutside (stm .control .state)) 0 0 0 (255 ∷ 0 ∷ 0 ∷ 0 ∷ [])
-      (messagesOf (stm .brakes) (stm .feedback)) 0
+      (messagesOf (stm .brakes) (stm .feedback)) 0 never
   unfolding reportOf reportOutside
   report-elsewhere e = by-state (stm .control .state) stm ∙ rw e

@@ -21,6 +21,15 @@ is-insufficient-requires c κs = tt
 shown-fields-requires : tie.Need-shown-fields-requires
 shown-fields-requires c κs = tt
 
+change-of-requires : tie.Need-change-of-requires
+change-of-requires c κs = tt
+
+high-pair-requires : tie.Need-high-pair-requires
+high-pair-requires c κs = tt
+
+low-pair-requires : tie.Need-low-pair-requires
+low-pair-requires c κs = tt
+
 state-number-requires : tie.Need-state-number-requires
 state-number-requires c κs = tt
 
@@ -54,30 +63,55 @@ messages-of-requires c κs = tt
 offered-of-requires : tie.Need-offered-of-requires
 offered-of-requires c κs = tt
 
+high-requires-4 : tie.Need-high-requires-4
+high-requires-4 c κs = tt
+
+low-requires-4 : tie.Need-low-requires-4
+low-requires-4 c κs = tt
+
+high-requires-5 : tie.Need-high-requires-5
+high-requires-5 c κs = tt
+
+low-requires-5 : tie.Need-low-requires-5
+low-requires-5 c κs = tt
+
 returns : tie.Need-returns
 returns c =
     let c4 = c .before .before .before .before in
     let c8 = c4 .before .before .before .before in
     let c12 = c8 .before .before .before .before in
+    let c16 = c12 .before .before .before .before in
+    let c20 = c16 .before .before .before .before in
     rw (
-      sym (c12 .before .before .chosen .ensures),
-      sym (c12 .before .is-over .ensures),
-      sym (c12 .is-insufficient .ensures),
-      sym (c8 .before .before .before .shown-fields .ensures),
-      c .offered-of .ensures,
-      c .before .messages-of .ensures,
-      c .before .before .low3 .ensures,
-      c .before .before .before .high3 .ensures,
-      c4 .low2 .ensures,
-      c4 .before .high2 .ensures,
-      c4 .before .before .low .ensures,
-      c4 .before .before .before .high .ensures,
-      c8 .order-number .ensures,
-      c8 .before .order-of .ensures,
-      c8 .before .before .state-number .ensures,
-      c12 .before .before .before .permitted-speed .ensures,
-      c12 .before .before .before .before .causes-number .ensures,
+      sym (c20 .before .chosen .ensures),
+      sym (c20 .is-over .ensures),
+      sym (c16 .before .before .before .is-insufficient .ensures),
+      sym (c16 .before .before .shown-fields .ensures),
     )
+    (rw (
+      c .low5 .ensures,
+      c .before .high5 .ensures,
+      c .before .before .low4 .ensures,
+      c .before .before .before .high4 .ensures,
+      c4 .offered-of .ensures,
+      c4 .before .messages-of .ensures,
+      c4 .before .before .low3 .ensures,
+      c4 .before .before .before .high3 .ensures,
+      c8 .low2 .ensures,
+      c8 .before .high2 .ensures,
+    )
+    (rw (
+      c8 .before .before .low .ensures,
+      c8 .before .before .before .high .ensures,
+      c12 .order-number .ensures,
+      c12 .before .order-of .ensures,
+      c12 .before .before .state-number .ensures,
+      c12 .before .before .before .low-pair .ensures,
+      c16 .high-pair .ensures,
+      c16 .before .change-of .ensures,
+      c20 .before .before .permitted-speed .ensures,
+      c20 .before .before .before .causes-number .ensures,
+    )))
 
 pub report-in-da-spec : {M : Type 1} → statement M
 report-in-da-spec =
@@ -89,6 +123,9 @@ report-in-da-spec =
     is-over-requires
     is-insufficient-requires
     shown-fields-requires
+    change-of-requires
+    high-pair-requires
+    low-pair-requires
     state-number-requires
     order-of-requires
     order-number-requires
@@ -100,4 +137,8 @@ report-in-da-spec =
     low-requires-3
     messages-of-requires
     offered-of-requires
+    high-requires-4
+    low-requires-4
+    high-requires-5
+    low-requires-5
     returns)
