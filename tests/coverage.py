@@ -2,7 +2,7 @@
 """Checks that the recorded runs have what docs/TRACE.md says of them.
 
 Of crates/trips_run each command is read beside its line, and beside the picture that tests/trips.py keeps of a unit. Of
-crates/answers_run each record is read beside its line. The tables here are written from document 01. The exit status is 1
+crates/answers_run each record is read beside its line. The tables here are written from documents 01 and 02. The exit status is 1
 if something claimed is not met, or if an answer or a report is not as the tables and the picture have it.
 """
 
@@ -140,11 +140,17 @@ def claims():
         "shown by interval", "shown by interval, not the lowest permitted", "shown by permitted speed, not the lowest id",
         "shown by id", "another command changes the interval shown", "another command changes VMAX",
         "another command changes the offer", "a curve given in F, no cause"]
+    yield "F-1", [f"{name}: moved {words}" for name in INTERVALS[1:8] for words in ("the figure, the same", "one more, another")] + [
+        "no change down to 0 in F", "no change down to 0 in E, u' at or under w", "no change down to 0 at the floor",
+        "no change down to 0 at distance 0", "no curve", "outside DA", "at the report that leads to FA", "a figure of 0",
+        "past the permitted boundary in B, no change", "an interval passed over", "a figure with HALKA", "a figure downhill",
+        "a figure of an Expect Stop", "of two curves the shown one's", "another command writes it anew",
+        "43,324 cm: 7,499", "43,325 cm: 0"]
     yield "Figures", [
         "VMAX 100: 3,055 no order", "VMAX 100: 3,056 bit 0", "VMAX 100: 2,916 offered", "VMAX 100: 2,917 not offered",
         "P_FULL 380: 956 kPa gives 500 and the message", "full 700: 490 measured frees bit 6", "full 700: 489 doesn't"]
     yield "Areas", [f"area written at {n}" for n in (0, 100)] + [f"area left alone at {n}" for n in range(1, 14)] + [
-        f"area of {n} bytes: 1" for n in (0, 12, 13, 15, 32)] + [f"1 before {n}" for n in (2, 3, 4)] + [
+        f"area of {n} bytes: 1" for n in (0, 14, 17, 19, 32)] + [f"1 before {n}" for n in (2, 3, 4)] + [
         f"area left alone at {words}" for words in ("12 of a curve", "12 of a section", "12 of an ending section",
                                                     "13 of a curve", "13 of a section")] + [
         "a refused number accepted, with an area"]
@@ -172,6 +178,7 @@ class Coverage:
         self.report = None
         self.refused_numbers = set()
         self.refused_since = False
+        self.figure_before = None
         at_byte = 0
         for self.line, text in enumerate(lines, 1):
             length = LENGTHS.get(stream[at_byte], 0)
@@ -574,8 +581,10 @@ class Coverage:
             self.see(name, report[12] >> bit & 1)
         self.see(f"TRYCKGIVARFEL in {STATES[state]}", report[12] & 4)
         if state != DA:
-            outside = bytes([state, 3 if state == FA else 0, 0, 0, 0, 0, 0, 0, 255, 0, 0, 0, report[12], 0])
+            outside = bytes([state, 3 if state == FA else 0, 0, 0, 0, 0, 0, 0, 255, 0, 0, 0, report[12], 0, 255, 255, 255, 255])
             self.expect(report == outside, "the report outside DA")
+            self.see("outside DA")
+            self.see("at the report that leads to FA", state == FA and self.report is not None and self.report[0] == DA)
             return
         self.expect(causes == unit.causes, "the causes are the picture's")
         self.expect(vmax == unit.vmax, "VMAX is the picture's")
@@ -594,6 +603,66 @@ class Coverage:
             self.see("in B in HS, then A or Bf in DA", report[8] in self.b_in_hs and report[9] in (1, 3))
             self.see("a curve shown at d 0", unit.curves[report[8]]["d"] == 0)
             self.shown(report[8])
+        self.change(report)
+
+    def change(self, report):
+        """The figure of the shown curve, by halving, and what the report before it told."""
+        unit, figure = self.unit, struct.unpack(">I", report[14:])[0]
+        if report[8] == 255:
+            self.expect(figure == LAST, "no figure where no curve is shown")
+            self.see("no curve")
+            self.figure_before = None
+            return
+        train, held = self.judged()
+        shown = held[report[8]]
+        now = curves.interval(train, shown, unit.v)
+        self.expect(figure == curves.to_change(train, shown, unit.v), "the figure is the most with no change")
+        if figure == LAST:
+            floor = not 9 * unit.v > 250 * shown.speed
+            self.see("no change down to 0 in F", now == "F")
+            self.see("no change down to 0 in E, u' at or under w", now == "E" and shown.d > 0)
+            self.see("no change down to 0 at the floor", floor and shown.d > 0)
+            self.see("no change down to 0 at distance 0", shown.d == 0)
+        else:
+            self.see("a figure of 0", figure == 0)
+            self.see("a figure with HALKA", train.halka)
+            self.see("a figure downhill", shown.gradient < 0)
+            self.see("a figure of an Expect Stop", shown.kind == 1)
+            self.see("of two curves the shown one's",
+                     any(curves.to_change(train, c, unit.v) != figure for c in held.values()) if len(held) == 2 else False)
+        if shown == curves.MARKED_40._replace(d=shown.d) and train == curves.MARKED and unit.v == 2500:
+            self.see("43,324 cm: 7,499", shown.d == 43324 and figure == 7499)
+            self.see("43,325 cm: 0", shown.d == 43325 and figure == 0)
+        self.against(train, unit.v, report, shown, now)
+        over = curves.reached(train, shown, unit.v, "permitted")
+        self.figure_before = (report[8], train, unit.v, shown, now, INTERVALS[report[9]], figure, over)
+
+    def against(self, train, v, report, shown, now):
+        """This report and the figure before it, of the same curve."""
+        if self.figure_before is None or self.figure_before[0] != report[8]:
+            return
+        ident, train_then, v_then, then, interval, told, figure, over = self.figure_before
+        if then._replace(d=0) == shown._replace(d=0) and (train_then, v_then) == (train, v) and then.d > shown.d:
+            moved = then.d - shown.d
+            if moved <= figure:
+                self.expect(now == interval, "up to the figure the interval stays")
+            if moved == figure:
+                self.see(f"{told}: moved the figure, the same")
+            if moved == figure + 1:
+                self.expect(now != interval, "one cm more is another interval")
+                self.see(f"{told}: moved one more, another")
+                self.see("an interval passed over", curves.BOUNDARIES.index(now) > (("A",) + curves.BOUNDARIES).index(interval))
+            self.see("past the permitted boundary in B, no change",
+                     interval == now == "B" and not over and curves.reached(train, shown, v, "permitted"))
+        elif (train_then, v_then) == (train, v) and then != shown:
+            self.see("another command writes it anew", self.figure_before[6] != struct.unpack(">I", report[14:])[0])
+
+    def judged(self):
+        """The train and the curves as tests/curve.py has them."""
+        unit, t = self.unit, self.unit.train
+        train = curves.Train(t["full"], t["soft"], int(bool(unit.buttons & HALKA)), t["t_b"], t["g_c"], t["g_p"], t["g_bf"],
+                             t["f_margin"])
+        return train, {n: curves.Curve(c["kind"], c["d"], c["speed"], c["gradient"], 0) for n, c in unit.curves.items()}
 
     def orders(self, order, causes):
         flag = self.unit.train["flags"] & 1
@@ -615,10 +684,7 @@ class Coverage:
         unit = self.unit
         if len(unit.curves) < 2:
             return
-        t = unit.train
-        train = curves.Train(t["full"], t["soft"], int(bool(unit.buttons & HALKA)), t["t_b"], t["g_c"], t["g_p"], t["g_bf"],
-                             t["f_margin"])
-        held = {n: curves.Curve(c["kind"], c["d"], c["speed"], c["gradient"], 0) for n, c in unit.curves.items()}
+        train, held = self.judged()
         ranks = {n: ("A", "Bf", "B", "C", "D", "E", "F").index(curves.interval(train, c, unit.v)) for n, c in held.items()}
         latest = [n for n in held if ranks[n] == max(ranks.values())]
         self.expect(ident in latest, "the shown curve is in the latest interval")

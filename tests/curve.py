@@ -1,5 +1,5 @@
 #!/usr/bin/env python3
-"""The curves of document 01 once more, written from 01 and in exact fractions, to compare the proved ones with.
+"""The curves of document 01, and F-1 of 02, once more, written from 01 and in exact fractions, to compare the proved ones with.
 
     curve.py vectors          writes recorded curves to standard output
     curve.py < records        writes the lines that crates/curve_run has to print for them
@@ -73,6 +73,13 @@ def brakes(train, curve, v):
     return 9 * v >= 250 * (curve.speed + 10) if curve.kind == 0 else 9 * v > 250 * curve.speed
 
 
+def to_change(train, curve, v):
+    """02, F-1: the most whole cm that can be covered with no change of the interval, by halving."""
+    now = interval(train, curve, v)
+    n = largest(lambda n: interval(train, curve._replace(d=curve.d - n), v) == now, curve.d)
+    return 0xFFFFFFFF if n == curve.d else n
+
+
 def moved_by(curve, moved):
     return curve._replace(d=max(curve.d - moved, 0))
 
@@ -119,7 +126,8 @@ def lines(data):
         else:
             curve = moved_by(curve, moved)
             over = ' over' * reached(train, curve, v, 'permitted')
-            yield f'v {v} b {deceleration(train, curve)} {judged(train, noted(train, curve, v), v)}{over}'
+            yield (f'v {v} b {deceleration(train, curve)} {judged(train, noted(train, curve, v), v)}{over} left '
+            f'{to_change(train, curve, v)}')
 
 
 def record(train, curve, v, moved=0, what=0, place=0):
@@ -150,6 +158,7 @@ def edges_of_v(train, curve, boundary):
 
 
 MARKED = Train(700, 500, 0, 30, 20, 20, 30, 10)
+MARKED_40 = Curve(0, 0, 40, 0, 0)
 WIDEST = Train(65535, 65535, 0, 255, 255, 255, 255, 255)
 NARROWEST = Train(0, 0, 0, 0, 0, 0, 0, 0)
 

@@ -403,6 +403,35 @@ impl Curve {
         }
     }
 
+    /// The most whole cm that can still be covered at v with no change of the computed interval: the least over the boundaries
+    /// after it of the ground up to the last cm before each.
+    fn to_change(&self, train: &Train, halka: bool, v: i64) -> u32 {
+        let now = self.interval(train, halka, v);
+        let b = self.deceleration(train, halka);
+        let w = self.w();
+        let left = |u: i64, lead: i64| {
+            let reaches = (50 * (u * u - w * w) + 81 * b * v * lead).div_euclid(810 * b);
+            self.distance - reaches - 1
+        };
+        let mut least = None;
+        if above(v, self.speed) {
+            let leads = [
+                (BF, train.lead_bf()),
+                (B, train.lead_b()),
+                (C, train.lead_c()),
+                (D, train.t_b),
+                (E, 0),
+            ];
+            let later = leads.iter().filter(|(interval, _)| *interval > now);
+            least = later.map(|(_, lead)| left(9 * v, *lead)).min();
+            let u = 9 * v - 250 * train.f_margin;
+            if now < F && u > w {
+                least = Some(least.map_or(left(u, 0), |n| n.min(left(u, 0))));
+            }
+        }
+        least.map_or(u32::MAX, |n| n as u32)
+    }
+
     /// Whether the curve brakes, its computed interval given.
     fn brakes(&self, interval: u8, v: i64) -> bool {
         let fast = if self.stop {
@@ -459,7 +488,7 @@ const PLACES: usize = 16;
 const CHECKED_DROP: f32 = 60.0;
 const ROLLED_TOO_FAR: i64 = 500;
 
-type Report = [u8; 14];
+type Report = [u8; 18];
 
 struct Unit {
     train: Train,
@@ -830,9 +859,10 @@ impl Unit {
     }
 
     fn report(&self) -> Report {
-        let mut report = [0; 14];
+        let mut report = [0; 18];
         report[0] = self.state as u8;
         report[8] = 255;
+        report[14..].fill(255);
         report[12] = u8::from(self.service_fault)
             | u8::from(self.emergency_fault) << 1
             | u8::from(self.feedback.fault) << 2;
@@ -879,6 +909,8 @@ impl Unit {
                 _ => 2,
             };
             report[11] = self.mode(interval, curve);
+            let change = curve.to_change(&self.train, halka, self.speed);
+            report[14..].copy_from_slice(&change.to_be_bytes());
         }
         let releasable = self.releasable(vmax, braking);
         report[13] =
@@ -927,7 +959,7 @@ impl Host {
             unit: None,
             last: Vec::new(),
             number: 0,
-            report: [0; 14],
+            report: [0; 18],
         }
     }
 
@@ -983,7 +1015,7 @@ impl Host {
 
 fn write_report(output: &mut impl Write, answer: u8, report: &Report) -> io::Result<()> {
     const DIGITS: &[u8; 16] = b"0123456789ABCDEF";
-    let mut text = [0; 28];
+    let mut text = [0; 36];
     for (pair, byte) in text.chunks_exact_mut(2).zip(report) {
         pair[0] = DIGITS[usize::from(byte >> 4)];
         pair[1] = DIGITS[usize::from(byte & 15)];
@@ -1099,9 +1131,9 @@ mod tests {
         ));
         assert_eq!(
             lines(&input),
-            "0 0000000000000000FF0000000000\n\
-             0 0100000000000000FF0000000000\n\
-             100 0100000000000000FF0000000000\n\
+            "0 0000000000000000FF0000000000FFFFFFFF\n\
+             0 0100000000000000FF0000000000FFFFFFFF\n\
+             100 0100000000000000FF0000000000FFFFFFFF\n\
              10\n\
              3\n"
         );
@@ -1133,6 +1165,39 @@ mod tests {
         let released = curve(true, 0, 40);
         assert_eq!(released.interval(&train, false, 1111), A);
         assert_eq!(released.interval(&train, false, 1112), F);
+    }
+
+    #[test]
+    fn change_figures() {
+        let train = example_train();
+        let at = |d, v| curve(false, d, 40).to_change(&train, false, v);
+        assert_eq!(at(43_324, 2500), 7_499);
+        assert_eq!(at(43_325, 2500), 0);
+        assert_eq!(at(35_824, 2500), 9_368);
+        assert_eq!(at(26_455, 2500), u32::MAX);
+        assert_eq!(at(1_467, 1200), u32::MAX);
+        assert_eq!(at(1_467, 1111), u32::MAX);
+        assert_eq!(at(0, 1200), u32::MAX);
+    }
+
+    #[test]
+    fn the_next_centimetre_changes() {
+        let train = example_train();
+        for stop in [false, true] {
+            for distance in (0..200_000).step_by(4_321) {
+                for (gradient, v) in [(-30, 2500), (0, 1112), (0, 2500), (3, 4000), (30, 9999)] {
+                    let at = |d| Curve {
+                        gradient,
+                        ..curve(stop, d, 40)
+                    };
+                    let now = at(distance).interval(&train, false, v);
+                    let same = |n: &i64| at(distance - n).interval(&train, false, v) == now;
+                    let most = (0..=distance).take_while(same).last().unwrap();
+                    let figure = if most == distance { u32::MAX } else { most as u32 };
+                    assert_eq!(at(distance).to_change(&train, false, v), figure);
+                }
+            }
+        }
     }
 
     #[test]

@@ -287,6 +287,7 @@ REPORT = (
     Field("mode", 1, words=("normal", "pre-indication", "indication", "warning", "intervention"), empty=0),
     Field("messages", 1, bits=("DRIFTBROMSFEL", "NÖDBROMSFEL", "TRYCKGIVARFEL"), empty=0),
     Field("release offered", 1, bits=("LOSS", "text"), empty=0),
+    Field("next change", 4, empty=0xFFFFFFFF),
 )
 
 REPORT_LENGTH = sum(field.bytes for field in REPORT)

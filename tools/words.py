@@ -32,6 +32,13 @@ def curve_text(report):
     return f"curve {report['shown id']} in {interval}, {bar}, mode {report['mode']} {mode}"
 
 
+def change_text(report):
+    """'74.99 m to its next change'"""
+    if report["next change"] == FIELDS["next change"].empty:
+        return "no change ahead"
+    return f"{report['next change'] / 100:,.2f} m to its next change"
+
+
 def release_text(report):
     buttons = [name for _, name in FIELDS["release offered"].set_bits(report["release offered"])]
     return f"release offered by {' and '.join(buttons)}" if buttons else "release not offered"
@@ -47,6 +54,8 @@ def report_text(report):
         parts.append(f"permitted {report['permitted speed']}, VMAX {report['VMAX']}")
     if in_da or any(report[name] != FIELDS[name].empty for name in ("shown id", "interval", "bar", "mode")):
         parts.append(curve_text(report))
+    if any(report[name] != FIELDS[name].empty for name in ("shown id", "next change")):
+        parts.append(change_text(report))
     if in_da or report["release offered"]:
         parts.append(release_text(report))
     messages = [name for _, name in FIELDS["messages"].set_bits(report["messages"])]

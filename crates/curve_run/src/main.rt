@@ -83,6 +83,7 @@ fn judge_one(r: &[u8]) {
     put_curve(c);
     put_judged(curve::noted(c, interval), j);
     put_flag(b" over", is_over(c, braking, v));
+    put_number(b" left ", curve::to_change(c, braking, v) as u64);
     put(b"\n");
 }
 

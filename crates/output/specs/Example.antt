@@ -1,4 +1,4 @@
--- The example of 01, as bytes in and bytes out.
+-- The example of 01, as bytes in and bytes out; each report has F-1's four bytes at its end (02).
 use Prim.Native.Nat.{ℕ}
 use Prim.Native.Char.{code}
 use Prim.Native.String.{String, [] as no-text, _∷_ as _then_}
@@ -29,9 +29,9 @@ exampleInput = start ++ toCS ++ toCS ++ toDA ++ (0x7F ∷ [])
 
 abbrev pub exampleOutput : List ℕ
 exampleOutput =
-    ascii "0 0000000000000000FF0000000000\n"
-    ++ ascii "0 0100000000000000FF0000000000\n"
-    ++ ascii "100 0100000000000000FF0000000000\n"
+    ascii "0 0000000000000000FF0000000000FFFFFFFF\n"
+    ++ ascii "0 0100000000000000FF0000000000FFFFFFFF\n"
+    ++ ascii "100 0100000000000000FF0000000000FFFFFFFF\n"
     ++ ascii "10\n"
     ++ ascii "3\n"
 
