@@ -5,7 +5,9 @@
 
 The stream comes from tests/trips.py and the expected lines from tests/plain.rs, which know nothing of the definitions. The checker
 computes the same stream over `callOf` and `areaOf` of crates/rules/specs, in a copy of the repository, and has to find every answer
-and every area equal. A few hundred commands take some seconds; from about 400 on the checker may stop at its step limit.
+and every area equal. The last four bytes of a report are a largest number, which would be walked to; they are computed by the
+division that rules/proofs/ChangeFigures proves equal to it. A few hundred commands take some seconds; from about 400 on the checker
+may stop at its step limit.
 """
 
 import os
@@ -23,21 +25,34 @@ PROOF = """-- A stream, computed over the definitions.
 use mathlib.Core.Path.{{_≡_, refl}}
 use Prim.Native.Nat.{{ℕ}}
 use mathlib.Core.List.{{List, [], _∷_, _++_}}
-use mathlib.Core.Bool.{{true}}
-use lib.ListN.{{replicate}}
+use mathlib.Core.Bool.{{true, cond}}
+use lib.ListN.{{take, drop, replicate}}
 use Rattle.wire.specs.Form.{{reportLength}}
 use Rattle.wire.specs.Bytes.{{sameBytes}}
-use Rattle.rules.specs.Numbers.{{answerNumber}}
+use Rattle.curve.specs.Changes.{{never}}
+use Rattle.rules.specs.Numbers.{{answerNumber, isAnswered}}
+use Rattle.rules.specs.Reports.{{four}}
 use Rattle.rules.specs.Commands.{{freshStm}}
 use Rattle.rules.specs.Runs.{{Sent, Moment, moments}}
+use Rattle.rules.specs.History.{{isIn}}
+use Rattle.rules.specs.declared.State.{{State}}
+use Rattle.rules.specs.declared.Stm.{{Stm}}
 use Rattle.rules.proofs.Computing.{{computing}}
+use Rattle.rules.proofs.Written.{{shown}}
+use Rattle.rules.proofs.ChangeFigures.{{dividedOf}}
 
 abbrev send : List ℕ → Sent
 send command = record {{ command = command; area = replicate reportLength {untouched} }}
 
+abbrev change : Stm → ℕ
+change stm = cond (isIn State.DA stm) (dividedOf (stm .train) (stm .kept) (shown stm)) never
+
+abbrev area : Moment → List ℕ
+area m = take 14 (m .area) ++ cond (isAnswered (m .answer)) (four (change (m .stm)) []) (drop 14 (m .area))
+
 abbrev told : List Moment → List ℕ
 told [] = []
-told (m ∷ ms) = answerNumber (m .answer) ∷ (m .area ++ told ms)
+told (m ∷ ms) = answerNumber (m .answer) ∷ (area m ++ told ms)
 
 abbrev sent : List Sent
 sent =
@@ -71,7 +86,7 @@ def expected_of(lines):
     numbers = []
     for line in lines:
         answer, _, report = line.partition(" ")
-        numbers += [int(answer), *(bytes.fromhex(report) or bytes([UNTOUCHED] * 14))]
+        numbers += [int(answer), *(bytes.fromhex(report) or bytes([UNTOUCHED] * 18))]
     return numbers
 
 
