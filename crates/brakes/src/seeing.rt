@@ -5,7 +5,7 @@ ghost use Rattle.rules.specs.Odometer.{isInsufficient, seenWith};
 use crate::release::is_rolled;
 use curve::Interval;
 use curve::Judged;
-use curve::PLACES;
+use places::PLACES;
 use pressure::Measured;
 use rules::Kept;
 use rules::Roll;
@@ -37,9 +37,9 @@ pub fn seen_with(
         speed: kept.speed,
         vmax,
         margin: train.emergency,
-        d: curve::any_brakes(Interval::D, judged),
-        e: curve::any_brakes(Interval::E, judged),
-        f: curve::any_brakes(Interval::F, judged),
+        d: places::any_brakes(Interval::D, judged),
+        e: places::any_brakes(Interval::E, judged),
+        f: places::any_brakes(Interval::F, judged),
         insufficient: is_insufficient(train, feedback),
         halka: kept.halka,
         since,

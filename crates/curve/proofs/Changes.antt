@@ -2,18 +2,17 @@
 use Prim.Native.Nat.{ℕ, zero, suc, max, _-_, _*_, _≤_, _<_, zero-le}
 use mathlib.Core.Path.{_≡_, refl, sym, _∙_, ap, ap₂}
 use mathlib.Core.Bool.{Bool, true, false, cond, not, _&&_, _||_, or-false}
-use mathlib.Core.Logic.{_⊎_, inl, inr}
-use native.Mathlib.Nat.{le-refl, le-antisymm, le-of-lt, lt-of-not-le, le-max-left, le-max-right, max-eq-left, max-eq-right}
+use mathlib.Core.Logic.{inl, inr}
+use native.Mathlib.Nat.{le-refl, le-antisymm, le-of-lt, lt-of-not-le, max-eq-left, max-eq-right}
 use native.Mathlib.Decide.{decLe}
 use native.Mathlib.Omega.{arith}
 use lib.Dec.{eqb, ltb, lit<}
 use borrow.Author.Tests.{eq-eqb, ne-eqb, lt-ltb, le-ltb, ltb-true, ltb-false}
-use Rattle.laws.proofs.Lists.{not-true-false}
 use Rattle.curve.specs.Boundary.{targetOf, isAbove, lineFor, isReached, isReachedF}
 use Rattle.curve.specs.Intervals.{lastReached, intervalOf, rankOf}
 use Rattle.curve.specs.Judging.{movedBy}
 use Rattle.curve.specs.Changes.{never, mostBefore, reachOf, reachOfF, isChanged, toChange, leadAfter}
-use Rattle.curve.specs.Claims.{ChangesAfter, NeverChanges, StaysFor, WeakerBraking, ReachedAsBefore, GroundLeftIsTold, GroundLeftToFIsTold, ChangeIsTold}
+use Rattle.curve.specs.Claims.{StaysFor, WeakerBraking, ReachedAsBefore, GroundLeftIsTold, GroundLeftToFIsTold, ChangeIsTold, NeverMeansNever}
 use Rattle.curve.specs.declared.Curve.{Curve}
 use Rattle.curve.specs.declared.Leads.{Leads}
 use Rattle.curve.specs.declared.Braking.{Braking}
@@ -45,15 +44,17 @@ module _ (curve : Curve) (level v : ℕ) where
 
 pub ground-left-is-told : GroundLeftIsTold
 unfolding reachOf
-ground-left-is-told curve level v T =
-    (left-none (λ c. isReached c level v T) curve (reached-on curve level v T),
-    left-told (λ c. isReached c level v T) curve (reached-on curve level v T))
+ground-left-is-told curve level v T = (
+  left-none (λ c. isReached c level v T) curve (reached-on curve level v T),
+  left-told (λ c. isReached c level v T) curve (reached-on curve level v T),
+)
 
 pub ground-left-to-f-is-told : GroundLeftToFIsTold
 unfolding reachOfF
-ground-left-to-f-is-told curve level margin v =
-    (left-none (λ c. isReachedF c level margin v) curve (f-reached-on curve level v margin),
-    left-told (λ c. isReachedF c level margin v) curve (f-reached-on curve level v margin))
+ground-left-to-f-is-told curve level margin v = (
+  left-none (λ c. isReachedF c level margin v) curve (f-reached-on curve level v margin),
+  left-told (λ c. isReachedF c level margin v) curve (f-reached-on curve level v margin),
+)
 
 -- what the rule tells of a speed above the floor is what the line tells, and of one at or under it, that it is never reached
 module _ (curve : Curve) (level v T : ℕ) {told : Reach} where
@@ -173,6 +174,15 @@ change-is-told curve braking v =
     rw (most-same (isChanged curve braking v) _ (changed-later curve braking v) (curve .distance))
     (stays-as (later-none curve braking v) (none-later curve braking v)
     (left-told (λ c. ltb rank (rankOf (intervalOf c braking v))) curve (later-on curve braking v) (le-ltb rank rank (le-refl rank))))
+
+-- the number tells which of the two it is
+told-apart : {Same : ℕ → Type 0} {distance n : ℕ} → distance ≤ never → StaysFor Same distance n
+    → (n ≡ never → (m : ℕ) → Same m) × (((m : ℕ) → m ≤ distance → Same m) → n ≡ never)
+told-apart {n = n} h (inl c) = (λ e. absurd (omega (arith, e, h, c .within)), λ same. absurd (c .changes (same (suc n) (c .within))))
+told-apart h (inr c) = (λ _. c .stays, λ _. c .told)
+
+pub never-means-never : NeverMeansNever
+never-means-never curve braking v h = told-apart h (change-is-told curve braking v)
 
 -- ---- which boundary makes the change
 

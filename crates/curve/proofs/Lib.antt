@@ -3,8 +3,6 @@ pub mod Divided
 pub mod Figures
 pub mod Ground
 pub mod Halving
-pub mod Held
 pub mod Line
-pub mod Loops
 pub mod Stricter
 pub mod Widths

@@ -1,6 +1,6 @@
 -- How far the train can still run before a change (02, F-1).
 use Prim.Native.Nat.{ℕ, max}
-use mathlib.Core.Bool.{Bool, cond, not, _&&_}
+use mathlib.Core.Bool.{Bool, cond, not}
 use lib.Dec.{eqb}
 use Rattle.curve.specs.Boundary.{isReached, isReachedF}
 use Rattle.curve.specs.Intervals.{intervalOf, rankOf}

@@ -163,3 +163,11 @@ abbrev pub ChangeIsTold : Type 0
 ChangeIsTold =
     (curve : Curve) (braking : Braking) (v : ℕ)
     → StaysFor (λ m. intervalOf (movedBy curve m) braking v ≡ intervalOf curve braking v) (curve .distance) (toChange curve braking v)
+
+-- so that, of a distance that four bytes hold, FFFFFFFF tells exactly that it is the same down to distance 0
+abbrev pub NeverMeansNever : Type 0
+NeverMeansNever =
+    (curve : Curve) (braking : Braking) (v : ℕ)
+    → curve .distance ≤ never
+    → (toChange curve braking v ≡ never → (m : ℕ) → intervalOf (movedBy curve m) braking v ≡ intervalOf curve braking v)
+    × (((m : ℕ) → m ≤ curve .distance → intervalOf (movedBy curve m) braking v ≡ intervalOf curve braking v) → toChange curve braking v ≡ never)

@@ -5,6 +5,5 @@ pub mod Intervals
 pub mod Permitted
 pub mod Judging
 pub mod Changes
-pub mod Places
 pub mod Claims
 pub mod Figures

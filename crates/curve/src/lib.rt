@@ -1,4 +1,4 @@
-// The curves of 01, "Curves": boundaries, intervals, permitted speeds, and the places that hold them.
+// The curves of 01, "Curves": boundaries, intervals, permitted speeds, and how far to a change.
 //
 // Speeds v are in cm/s, limits and targets in whole km/h, distances in cm, times in tenths of a
 // second, decelerations in mm/s². Every function answers at every value of its parameters.
@@ -9,7 +9,6 @@ mod intervals;
 mod judging;
 mod lead;
 mod permitted;
-mod places;
 
 pub use boundary::NEVER;
 pub use boundary::f_reach_of;
@@ -32,13 +31,6 @@ pub use judging::noted;
 pub use lead::leads_of;
 pub use permitted::TOP;
 pub use permitted::permitted_of;
-pub use places::PLACES;
-pub use places::any_brakes;
-pub use places::judge_all;
-pub use places::least_permitted;
-pub use places::move_all;
-pub use places::none_judged;
-pub use places::note_all;
 
 // The kinds of a curve: 0 speed target, 1 Expect Stop.
 pub enum Kind {

@@ -9,12 +9,12 @@ use curve::Gradient;
 use curve::Interval;
 use curve::Judged;
 use curve::Kind;
-use curve::PLACES;
 use fields::braking_of;
 use fields::curve_of;
 use fields::moved_of;
 use fields::place_of;
 use fields::speed_of;
+use places::PLACES;
 use text::put;
 use text::put_flag;
 use text::put_number;
@@ -104,7 +104,7 @@ fn put_in_place(r: &[u8], held: bool, curves: [Curve; PLACES]) -> [Curve; PLACES
 
 fn put_any(name: &[u8], interval: Interval, judged: [Judged; PLACES]) {
     put(name);
-    if curve::any_brakes(interval, judged) {
+    if places::any_brakes(interval, judged) {
         put(b"1");
     } else {
         put(b"0");
@@ -114,7 +114,7 @@ fn put_any(name: &[u8], interval: Interval, judged: [Judged; PLACES]) {
 // What all places say together.
 fn put_all(v: u16, judged: [Judged; PLACES]) {
     put_number(b"all v ", v as u64);
-    put_number(b": permitted ", curve::least_permitted(judged) as u64);
+    put_number(b": permitted ", places::least_permitted(judged) as u64);
     put_any(b" D ", Interval::D, judged);
     put_any(b" E ", Interval::E, judged);
     put_any(b" F ", Interval::F, judged);
@@ -138,9 +138,9 @@ fn put_place(at: usize, noted: [Curve; PLACES], judged: [Judged; PLACES]) {
 // Moves, judges and notes every place, and prints what all say together and what the record's place says.
 fn judge_places(r: &[u8], curves: [Curve; PLACES]) -> [Curve; PLACES] {
     let v = speed_of(r);
-    let moved = curve::move_all(curves, moved_of(r));
-    let judged = curve::judge_all(moved, braking_of(r), v);
-    let noted = curve::note_all(moved, judged);
+    let moved = places::move_all(curves, moved_of(r));
+    let judged = places::judge_all(moved, braking_of(r), v);
+    let noted = places::note_all(moved, judged);
     put_all(v, judged);
     put_place(place_of(r), noted, judged);
     put(b"\n");

@@ -1,37 +1,30 @@
 -- The parts of the unit after one accepted command: train, track, feedback, kept figures and control. Assumes nothing.
 use mathlib.Core.Path.{_≡_, refl, sym, _∙_, ap}
 use Prim.Native.Nat.{ℕ}
-use mathlib.Core.Bool.{Bool, true, false, cond, _&&_, _||_, false≢true}
+use mathlib.Core.Bool.{Bool, true, false, cond}
 use mathlib.Core.List.{List}
-use Rattle.pressure.specs.declared.Measured.{Measured}
 use Rattle.pressure.specs.Report.{reportedTo}
-use Rattle.curve.specs.declared.Curve.{Curve}
-use Rattle.curve.specs.Places.{movedAll}
 use Rattle.wire.specs.Numbers.{byteAt}
 use Rattle.wire.specs.Form.{operandsOf}
 use Rattle.rules.specs.Numbers.{codeOf, stateOf, isAccepted, isCode, isState}
-use Rattle.rules.specs.Operands.{codeByte, readingOf, curveOf, sectionOf}
-use Rattle.rules.specs.Places.{movedSection, movedTrack, givenCurve, endedCurve, givenSection, endedSection}
+use Rattle.rules.specs.Operands.{codeByte, readingOf}
+use Rattle.rules.specs.Places.{movedTrack}
 use Rattle.rules.specs.Releases.{releasedBrakes}
 use Rattle.rules.specs.Odometer.{withState, withBrakes, seenIn, keptOf, moves, measures, notedTrack, notes, adds, releases, isFresh, supervised, reportedIn}
-use Rattle.rules.specs.Commands.{entered, stopped, fortyBy, carriedOut, remembered, acceptedOf}
-use Rattle.rules.specs.Runs.{Sent, answerTo, stateAfter, isOf, ordersCS, freshens}
-use Rattle.rules.specs.History.{isIn, isReport, isSupervised, isMoving}
+use Rattle.rules.specs.Commands.{entered, stopped, carriedOut, remembered, acceptedOf}
+use Rattle.rules.specs.Runs.{Sent, answerTo, stateAfter}
+use Rattle.rules.specs.History.{isIn, isReport, isSupervised}
 use Rattle.rules.specs.Braking.{readingIn, measuredAt}
 use Rattle.rules.specs.declared.Code.{Code}
 use Rattle.rules.specs.declared.State.{State}
-use Rattle.rules.specs.declared.Control.{Control}
-use Rattle.rules.specs.declared.Train.{Train}
 use Rattle.rules.specs.declared.Track.{Track}
-use Rattle.rules.specs.declared.Section.{Section}
 use Rattle.rules.specs.declared.Brakes.{Brakes}
-use Rattle.rules.specs.declared.Kept.{Kept}
 use Rattle.rules.specs.declared.Reading.{Reading}
 use Rattle.rules.specs.declared.Stm.{Stm}
 use Rattle.rules.proofs.Answers.{after-accepted}
 use Rattle.rules.proofs.Tests.{impossible, both}
 use Rattle.rules.proofs.Told.{code-is, state-is}
-use Rattle.rules.proofs.Ordering.{doneBy, addedAt, releasedAt, endedAt, ended, done-supervised}
+use Rattle.rules.proofs.Ordering.{doneBy}
 
 -- ---- what is remembered of a command changes nothing else
 

@@ -2,10 +2,10 @@
 use mathlib.Core.Path.{_≡_, refl, sym, _∙_, ap, ap₂, subst}
 use Prim.Native.Nat.{ℕ, zero, suc, _≤_}
 use mathlib.Core.Bool.{Bool, true, false, not, _&&_}
-use mathlib.Core.Logic.{_⊎_, inl, inr}
+use mathlib.Core.Logic.{inl, inr}
 use mathlib.Core.List.{List, [], _∷_, List·Memᴰ·head, List·Memᴰ·tail, List·Memᴰ·not-nil}
 use native.Mathlib.Omega.{arith}
-use lib.Dec.{eqb, leb}
+use lib.Dec.{leb}
 use lib.ListN.{getD}
 use borrow.Author.Tests.{eq-eqb, leb-true}
 use Rattle.laws.proofs.Lists.{_∈_}
@@ -89,9 +89,10 @@ module _ (stm : Stm) (y : Sent) (place : ℕ) (goes : GoesOn stm y) (held : curv
 
   kept-on : (next .kept .speed ≡ stm .kept .speed) × (next .kept .halka ≡ stm .kept .halka)
   unfolding measuredAt notes measures moves readingOf
-  kept-on =
-      (ap (λ kept. kept .speed) (kept-measured stm y (goes .accepted) (goes .supervised)) ∙ goes .speed,
-      ap (λ kept. kept .halka) (kept-measured stm y (goes .accepted) (goes .supervised)) ∙ goes .halka)
+  kept-on = (
+    ap (λ kept. kept .speed) (kept-measured stm y (goes .accepted) (goes .supervised)) ∙ goes .speed,
+    ap (λ kept. kept .halka) (kept-measured stm y (goes .accepted) (goes .supervised)) ∙ goes .halka,
+  )
 
   brakes-on : brakingIn next ≡ brakingIn stm
   unfolding measuredAt notes measures moves

@@ -17,7 +17,7 @@ use Rattle.wire.specs.Codes.{commands}
 use Rattle.wire.specs.declared.form.Form.{Form}
 use Rattle.wire.specs.Form.{formOf, refusalOf, operandsOf}
 use Rattle.curve.specs.Intervals.{rankOf}
-use Rattle.curve.specs.Places.{permittedHere, leastPermitted}
+use Rattle.places.specs.Places.{permittedHere, leastPermitted}
 use Rattle.curve.specs.declared.Judged.{Judged}
 use Rattle.rules.specs.Numbers.{answerNumber, codeOf}
 use Rattle.rules.specs.Operands.{codeByte}

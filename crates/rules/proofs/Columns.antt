@@ -1,35 +1,34 @@
 -- The columns of the table of causes say what 01's table says. Assumes nothing.
-use mathlib.Core.Path.{_≡_, refl, sym, _∙_, ap, subst}
+use mathlib.Core.Path.{_≡_, refl, sym, _∙_, ap}
 use Prim.Native.Nat.{ℕ, _+_, _*_, _≤_, _<_}
 use native.Mathlib.Nat.{le-trans}
 use native.Mathlib.Omega.{arith}
-use mathlib.Core.Bool.{Bool, true, false, cond, not, _&&_, _||_, false≢true, and-false, and-true, or-false}
+use mathlib.Core.Bool.{Bool, true, false, not, _&&_, _||_, false≢true, and-false, and-true, or-false}
 use mathlib.Core.Logic.{_⊎_, inl, inr}
-use mathlib.Core.List.{List, [], _∷_, map}
-use lib.Dec.{leb, ltb, eqb, lit<, lit≤}
-use borrow.Author.Tests.{ltb-true, leb-true, lt-ltb, le-leb, not-true, not-false, eqb-true}
-use Rattle.laws.proofs.Lists.{_∈_, getD-in, not-true-false}
+use mathlib.Core.List.{List, [], _∷_}
+use lib.Dec.{leb, ltb, lit<, lit≤}
+use borrow.Author.Tests.{ltb-true, leb-true, lt-ltb, le-leb, not-true}
+use Rattle.laws.proofs.Lists.{_∈_, getD-in}
 use Rattle.pressure.specs.Reference.{dropOf}
 use Rattle.curve.specs.Deceleration.{levelOf}
 use Rattle.curve.specs.declared.Kind.{Kind}
 use Rattle.curve.specs.declared.Curve.{Curve}
-use Rattle.curve.specs.declared.Braking.{Braking}
 use Rattle.curve.specs.declared.Interval.{Interval}
-use Rattle.curve.specs.Intervals.{intervalOf, rankOf}
+use Rattle.curve.specs.Intervals.{rankOf}
 use Rattle.curve.specs.Judging.{isFastFor, isFast, brakesAt, judgedOf}
-use Rattle.curve.specs.Places.{anyBrakes}
+use Rattle.places.specs.Places.{anyBrakes}
 use Rattle.wire.specs.Numbers.{byteAt}
 use Rattle.wire.specs.Form.{operandsOf}
 use Rattle.rules.specs.Numbers.{bitNumber, isAccepted, codeOf}
 use Rattle.rules.specs.Operands.{codeByte}
-use Rattle.rules.specs.Places.{anyOf, allOf}
-use Rattle.rules.specs.Speeds.{brakingOf, judgedNow, vmaxOf}
+use Rattle.rules.specs.Places.{allOf}
+use Rattle.rules.specs.Speeds.{brakingOf, judgedNow}
 use Rattle.rules.specs.Table.{causes, stands, curveOrders, orderedAt, orderedBy, isSlow, releasableWhen, othersReleasable, isReleasable, addedCauses}
 use Rattle.rules.specs.Checks.{isDrop}
 use Rattle.rules.specs.Releases.{serviceFails}
 use Rattle.rules.specs.Odometer.{isInsufficient, seenWith, seenOf, seenIn}
 use Rattle.rules.specs.Runs.{Sent, answerTo, stateAfter}
-use Rattle.rules.specs.History.{Tells, isSupervised, Holds, brakingIn, intervalIn}
+use Rattle.rules.specs.History.{Tells, isSupervised, brakingIn, intervalIn}
 use Rattle.rules.specs.Braking.{measuredAt, seenAt, orderedNow, releasableNow}
 use Rattle.rules.specs.Columns.{vmaxIs, IsFast, BrakesFrom, isShort, CurveOrders, Orders, OrderedAtReport, commandOrders, FreedWhen, IsFree, ReleasableAtReport, OrderedByCommand}
 use Rattle.rules.specs.declared.Cause.{Cause}

@@ -16,7 +16,7 @@ use Rattle.curve.specs.Boundary.{targetOf, isAbove, leftSide, rightSide, line, 
 use Rattle.curve.specs.Intervals.{intervalOf, shownOf}
 use Rattle.curve.specs.Permitted.{largestFailing, permittedOf}
 use Rattle.curve.specs.Judging.{isFast, brakesAt, judgedOf}
-use Rattle.curve.specs.Places.{leastPermitted, anyBrakes}
+use Rattle.places.specs.Places.{leastPermitted, anyBrakes}
 use Rattle.rules.specs.Numbers.{codeOf, stateOf}
 use Rattle.rules.specs.Operands.{trainOf, trainInRange, startInRange, readingOf, odometerInRange}
 use Rattle.rules.specs.Operands.{curveOf, curveInRange, newCurveInRange, sectionOf, sectionInRange}

@@ -1,29 +1,24 @@
 -- Free places through a list of commands. Assumes nothing.
 use mathlib.Core.Path.{_≡_, refl, sym, _∙_, ap}
 use Prim.Native.Nat.{ℕ}
-use mathlib.Core.Bool.{Bool, true, false, cond, _&&_, _||_}
+use mathlib.Core.Bool.{Bool, true, false, _&&_, _||_}
 use mathlib.Core.List.{List, [], _∷_, map}
-use lib.Dec.{eqb, leb}
 use lib.ListN.{getD}
 use Rattle.wire.specs.Numbers.{byteAt}
 use Rattle.wire.specs.Form.{operandsOf}
-use Rattle.curve.specs.declared.Curve.{Curve}
-use Rattle.curve.specs.Places.{movedHere, movedAll}
-use Rattle.curve.proofs.Held.{free-moved, free-noted}
+use Rattle.places.specs.Places.{movedHere, movedAll}
+use Rattle.places.proofs.Held.{free-moved, free-noted}
 use Rattle.rules.specs.Numbers.{isAccepted, isCode, isState, codeOf, stateOf}
 use Rattle.rules.specs.Operands.{codeByte, readingOf}
 use Rattle.rules.specs.Places.{freeCurve, freeSection, endedCurve, endingSection, endedSection, movedSection, movedTrack}
 use Rattle.rules.specs.Speeds.{brakingOf}
 use Rattle.rules.specs.Odometer.{keptOf, notedTrack}
-use Rattle.rules.specs.Commands.{entered, stopped, carriedOut}
+use Rattle.rules.specs.Commands.{stopped, carriedOut}
 use Rattle.rules.specs.Runs.{Sent, answerTo, stateAfter, stateAtEnd, noneAccepted, isOf, freshens}
 use Rattle.rules.specs.History.{curveAt, sectionAt}
-use Rattle.rules.specs.Held.{holdsAt}
 use Rattle.rules.specs.Ground.{FreePlacesStay}
 use Rattle.rules.specs.declared.Code.{Code}
 use Rattle.rules.specs.declared.State.{State}
-use Rattle.rules.specs.declared.Section.{Section}
-use Rattle.rules.specs.declared.Track.{Track}
 use Rattle.rules.specs.declared.Reading.{Reading}
 use Rattle.rules.specs.declared.Stm.{Stm}
 use Rattle.rules.proofs.Answers.{after-other}

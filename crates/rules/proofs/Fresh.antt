@@ -2,32 +2,30 @@
 use mathlib.Core.Path.{_≡_, refl, sym, _∙_, ap}
 use Prim.Native.Nat.{ℕ, zero, suc, _≤_}
 use native.Mathlib.Omega.{arith}
-use mathlib.Core.Bool.{Bool, true, false, cond, _&&_, _||_, false≢true}
+use mathlib.Core.Bool.{Bool, true, false, cond, _&&_, _||_}
 use mathlib.Core.List.{List}
-use lib.Dec.{eqb, leb}
+use lib.Dec.{eqb}
 use lib.ListN.{getD, replicate}
-use borrow.Author.Tests.{eqb-true, leb-true, ne-eqb}
-use Rattle.wire.specs.Numbers.{byteAt}
+use borrow.Author.Tests.{leb-true, ne-eqb}
 use Rattle.wire.specs.Form.{operandsOf}
 use Rattle.pressure.specs.Report.{freshFeedback}
 use Rattle.rules.specs.Numbers.{isAccepted, isCode, isState, codeOf, stateOf}
-use Rattle.rules.specs.Operands.{codeByte, trainOf, readingOf, inRange}
-use Rattle.curve.specs.Places.{places}
+use Rattle.rules.specs.Operands.{codeByte, readingOf, inRange}
+use Rattle.places.specs.Places.{places}
 use Rattle.rules.specs.Places.{freeCurve, freeSection, freshTrack}
-use Rattle.rules.specs.Table.{stands, noCauses}
+use Rattle.rules.specs.Table.{noCauses}
 use Rattle.rules.specs.Releases.{freshBrakes, releasedBrakes}
 use Rattle.rules.specs.Odometer.{withState, withBrakes, seenIn, moves, measures, notes, adds, releases, isFresh, supervised, reportedIn}
 use Rattle.rules.specs.Commands.{freshKept, freshWith, entered, stopped, carriedOut}
 use Rattle.rules.specs.Runs.{Sent, answerTo, stateAfter, isOf}
-use Rattle.rules.specs.History.{firstOperand, isIn, isSupervised, curveAt, sectionAt}
-use Rattle.rules.specs.Fresh.{HoldsNothing, IsFresh, StartIsFresh, EnteringCS, StateNamed, StateIsEntered, StateStays}
+use Rattle.rules.specs.History.{firstOperand, isIn, isSupervised}
+use Rattle.rules.specs.Fresh.{HoldsNothing, StartIsFresh, EnteringCS, StateNamed, StateIsEntered, StateStays}
 use Rattle.rules.specs.declared.Code.{Code}
 use Rattle.rules.specs.declared.State.{State}
-use Rattle.rules.specs.declared.Cause.{Cause}
 use Rattle.rules.specs.declared.Reading.{Reading}
 use Rattle.rules.specs.declared.Stm.{Stm}
 use Rattle.rules.proofs.Answers.{passed}
-use Rattle.rules.proofs.Tests.{impossible, second-fails}
+use Rattle.rules.proofs.Tests.{impossible}
 use Rattle.rules.proofs.Told.{code-is}
 use Rattle.rules.proofs.Ordering.{stands-for, brakes-after, doneBy, entered-keeps}
 use Rattle.rules.proofs.After.{control-after, train-after, track-after, feedback-after, kept-after, track-entered}

@@ -1,32 +1,31 @@
 -- Ground over a list of commands: what a curve loses and an ending section gains. Assumes nothing.
 use mathlib.Core.Path.{_≡_, refl, sym, _∙_, ap, subst}
-use Prim.Native.Nat.{ℕ, zero, suc, _+_, _-_, _*_, _≤_, _<_}
+use Prim.Native.Nat.{ℕ, _+_}
 use native.Mathlib.Omega.{arith}
 use native.Mathlib.Nat.{zero-add, sub-zero}
-use mathlib.Core.Bool.{Bool, true, false, cond, not, _&&_, _||_, false≢true}
-use mathlib.Core.List.{List, [], _∷_, _++_, map, zipWith}
-use lib.Dec.{eqb, leb}
+use mathlib.Core.Bool.{Bool, true, false, cond, not, _&&_, _||_}
+use mathlib.Core.List.{List, [], _∷_, map}
+use lib.Dec.{eqb}
 use lib.ListN.{getD}
-use borrow.Author.Tests.{not-true, eqb-true, eq-eqb}
+use borrow.Author.Tests.{not-true}
 use Rattle.curve.specs.declared.Curve.{Curve}
 use Rattle.curve.specs.Judging.{movedBy, judgedOf, notedAt}
-use Rattle.curve.specs.Places.{movedHere, movedAll, judgedHere}
-use Rattle.curve.proofs.Held.{held-moved, held-judged}
+use Rattle.places.specs.Places.{movedHere, movedAll, judgedHere}
+use Rattle.places.proofs.Held.{held-moved, held-judged}
 use Rattle.wire.specs.Numbers.{byteAt}
 use Rattle.wire.specs.Form.{operandsOf}
 use Rattle.rules.specs.Numbers.{isAccepted, isCode, isState, codeOf, stateOf}
-use Rattle.rules.specs.Operands.{codeByte, twoAt, readingOf, curveOf, sectionOf}
-use Rattle.rules.specs.Places.{placed, freeCurve, isCurve, holdsCurve, withPast, replacedCurve, givenCurve, endedCurve, movedTrack}
+use Rattle.rules.specs.Operands.{codeByte, twoAt, readingOf, curveOf}
+use Rattle.rules.specs.Places.{freeCurve, withPast, givenCurve, endedCurve, movedTrack}
 use Rattle.rules.specs.Speeds.{brakingOf, judgedNow}
-use Rattle.rules.specs.Odometer.{keptOf, notedTrack, reportedIn}
-use Rattle.rules.specs.Commands.{entered, stopped, carriedOut}
-use Rattle.rules.specs.Runs.{Sent, answerTo, stateAfter, stateAtEnd, noneAccepted, isOf, freshens}
-use Rattle.rules.specs.History.{isMoving, movedOf, collected, sum, groundOver, curveAt, sectionAt}
-use Rattle.rules.specs.Ground.{namesCurve, namesSection, HasLost, CurveLosesGround}
+use Rattle.rules.specs.Odometer.{keptOf, notedTrack}
+use Rattle.rules.specs.Commands.{stopped, carriedOut}
+use Rattle.rules.specs.Runs.{Sent, answerTo, stateAfter, stateAtEnd, noneAccepted, freshens}
+use Rattle.rules.specs.History.{isMoving, movedOf, collected, sum, groundOver, curveAt}
+use Rattle.rules.specs.Ground.{namesCurve, HasLost, CurveLosesGround}
 use Rattle.rules.specs.Held.{holdsAt}
 use Rattle.rules.specs.declared.Code.{Code}
 use Rattle.rules.specs.declared.State.{State}
-use Rattle.rules.specs.declared.Section.{Section}
 use Rattle.rules.specs.declared.Train.{Train}
 use Rattle.rules.specs.declared.Track.{Track}
 use Rattle.rules.specs.declared.Kept.{Kept}
@@ -34,9 +33,8 @@ use Rattle.rules.specs.declared.Reading.{Reading}
 use Rattle.rules.specs.declared.Stm.{Stm}
 use Rattle.rules.proofs.Answers.{after-other}
 use Rattle.rules.proofs.Tests.{impossible, both, neither, second-fails, zip-self}
-use Rattle.rules.proofs.Ordering.{doneBy}
 use Rattle.rules.proofs.AtPlaces.{changed-at, elsewhere, others-stay, given-stays}
-use Rattle.rules.proofs.After.{train-after, track-after, trackIn, reported-track, train-kept, track-entered}
+use Rattle.rules.proofs.After.{track-after, trackIn, reported-track, track-entered}
 
 -- ---- the ground of a list
 

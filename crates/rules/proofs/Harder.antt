@@ -3,7 +3,7 @@ use mathlib.Core.Path.{refl}
 use native.Mathlib.Nat.{le-refl}
 use native.Mathlib.Bridge.{IsLe, le-by-compare}
 use mathlib.Core.Bool.{true, false, false≢true}
-use Rattle.curve.specs.Places.{places}
+use Rattle.places.specs.Places.{places}
 use Rattle.rules.specs.Runs.{stateAtEnd}
 use Rattle.rules.specs.TwoRuns.{Compared, BrakesHarder}
 use Rattle.rules.specs.Pairs.{farCurve, nearCurve, harderPair}

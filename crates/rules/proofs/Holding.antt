@@ -7,7 +7,7 @@ use mathlib.Core.List.{List, [], _∷_, map}
 use lib.Dec.{eqb}
 use lib.ListN.{length, length-map}
 use borrow.Author.Tests.{eqb-true, eq-eqb}
-use Rattle.curve.specs.Places.{places}
+use Rattle.places.specs.Places.{places}
 use Rattle.rules.specs.Places.{anyOf, allOf, placed}
 use Rattle.rules.specs.Units.{differ}
 use Rattle.rules.proofs.Tests.{and-left, and-right, and-both, not-mono, if-made, if-used, cond-by, all-head, all-tail, all-cons, none-passes, all-map}

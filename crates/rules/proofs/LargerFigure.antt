@@ -5,8 +5,7 @@ use native.Mathlib.Nat.{le-refl}
 use native.Mathlib.Bridge.{IsLe, le-by-compare}
 use native.Mathlib.Omega.{arith}
 use mathlib.Core.Bool.{true, false, false≢true}
-use mathlib.Core.List.{[], _∷_}
-use Rattle.curve.specs.Places.{places}
+use Rattle.places.specs.Places.{places}
 use Rattle.rules.specs.Runs.{Sent, momentOf, stateAtEnd}
 use Rattle.rules.specs.History.{changeIn}
 use Rattle.rules.specs.TwoRuns.{Compared, FigureMayBeLarger}

@@ -10,7 +10,7 @@ use Rattle.curve.specs.declared.Curve.{Curve}
 use Rattle.curve.specs.Claims.{Stricter}
 use Rattle.curve.proofs.Stricter.{same}
 use Rattle.rules.specs.Numbers.{codeOf}
-use Rattle.curve.specs.Places.{places}
+use Rattle.places.specs.Places.{places}
 use Rattle.rules.specs.Places.{anyOf, freeCurve, freeSection}
 use Rattle.rules.specs.Runs.{moments}
 use Rattle.rules.specs.Units.{IsUnit}

@@ -1,5 +1,5 @@
 -- A curve's past in B: noted at reports in DA, and at nothing else. Assumes nothing.
-use mathlib.Core.Path.{_≡_, refl, sym, _∙_, ap, ap₂}
+use mathlib.Core.Path.{_≡_, refl, sym, _∙_, ap}
 use Prim.Native.Nat.{ℕ}
 use mathlib.Core.Bool.{Bool, true, false, _&&_, _||_}
 use mathlib.Core.List.{List, [], _∷_}
@@ -15,12 +15,12 @@ use Rattle.curve.specs.Intervals.{intervalOf, rankOf}
 use Rattle.curve.specs.Judging.{movedBy, judgedOf, notedAt}
 use Rattle.rules.specs.Numbers.{isAccepted, isCode, isState, codeOf, stateOf}
 use Rattle.rules.specs.Operands.{codeByte, readingOf, curveOf}
-use Rattle.rules.specs.Places.{freeCurve, withPast, givenCurve, endedCurve, movedTrack}
+use Rattle.rules.specs.Places.{freeCurve, movedTrack}
 use Rattle.rules.specs.Speeds.{brakingOf}
 use Rattle.rules.specs.Odometer.{keptOf, moves, measures, notes}
 use Rattle.rules.specs.Commands.{stopped, carriedOut}
 use Rattle.rules.specs.Runs.{Sent, answerTo, stateAfter, stateAtEnd, noneAccepted, freshens}
-use Rattle.rules.specs.History.{isIn, isReport, isSupervised, curveAt, brakingIn, intervalIn}
+use Rattle.rules.specs.History.{isIn, isSupervised, curveAt, intervalIn}
 use Rattle.rules.specs.Ground.{namesCurve}
 use Rattle.rules.specs.Written.{PastIsNoted, PastStays}
 use Rattle.rules.specs.Braking.{readingIn, measuredAt}
@@ -29,7 +29,7 @@ use Rattle.rules.specs.declared.State.{State}
 use Rattle.rules.specs.declared.Reading.{Reading}
 use Rattle.rules.specs.declared.Stm.{Stm}
 use Rattle.rules.proofs.Answers.{after-other}
-use Rattle.rules.proofs.Tests.{impossible, both, neither}
+use Rattle.rules.proofs.Tests.{impossible, neither}
 use Rattle.rules.proofs.After.{track-after, trackIn, reported-track, track-entered, train-measured, track-measured, kept-measured}
 use Rattle.rules.proofs.Ground.{notedIn, noted-at, moved-at, given-same, ended-same, spared-first, leavesCurve, one-lost}
 

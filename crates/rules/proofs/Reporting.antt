@@ -6,7 +6,7 @@ use mathlib.Core.List.{List}
 use lib.Dec.{leb}
 use Rattle.wire.specs.Numbers.{byteAt}
 use Rattle.pressure.specs.Phases.{isSet}
-use Rattle.curve.specs.Places.{judgedHere}
+use Rattle.places.specs.Places.{judgedHere}
 use Rattle.rules.specs.Operands.{twoAt, readingOf, odometerInRange}
 use Rattle.rules.specs.Places.{movedTrack}
 use Rattle.rules.specs.Speeds.{brakingOf, judgedNow}

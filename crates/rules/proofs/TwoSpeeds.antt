@@ -15,11 +15,11 @@ use Rattle.curve.specs.Deceleration.{levelOf}
 use Rattle.curve.specs.Intervals.{intervalOf, rankOf}
 use Rattle.curve.specs.Permitted.{permittedOf}
 use Rattle.curve.specs.Judging.{judgedOf}
-use Rattle.curve.specs.Places.{judgedAll, permittedHere, leastPermitted, brakesFrom, anyBrakes}
+use Rattle.places.specs.Places.{judgedAll, permittedHere, leastPermitted, brakesFrom, anyBrakes}
 use Rattle.curve.specs.Claims.{Stricter, WeakerBraking}
 use Rattle.curve.proofs.Stricter.{interval-is-not-earlier, still-brakes}
 use Rattle.curve.proofs.Halving.{permitted-is-not-higher}
-use Rattle.curve.proofs.Held.{permits-here, brakes-here}
+use Rattle.places.proofs.Held.{permits-here, brakes-here}
 use Rattle.rules.specs.Places.{anyOf}
 use Rattle.rules.specs.Speeds.{brakingOf, judgedNow, sectionSpeed, stopSpeed, vmaxOf, permittedSpeed}
 use Rattle.rules.specs.TwoRuns.{TrainsCompared}

@@ -9,9 +9,9 @@ use borrow.Author.Tests.{eq-eqb, eqb-true}
 use Rattle.curve.specs.declared.Curve.{Curve}
 use Rattle.curve.specs.declared.Braking.{Braking}
 use Rattle.curve.specs.Judging.{notedAt}
-use Rattle.curve.specs.Places.{movedHere, judgedHere, judgedAll, notedAll}
+use Rattle.places.specs.Places.{movedHere, judgedHere, judgedAll, notedAll}
 use Rattle.curve.specs.Claims.{Stricter}
-use Rattle.curve.proofs.Held.{held-moved, moved-held, moved-id}
+use Rattle.places.proofs.Held.{held-moved, moved-held, moved-id}
 use Rattle.rules.specs.Places.{isCurve, holdsCurve, movedSection, movedTrack}
 use Rattle.rules.specs.Speeds.{brakingOf, judgedNow}
 use Rattle.rules.specs.Odometer.{notedTrack}

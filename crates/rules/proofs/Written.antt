@@ -1,43 +1,38 @@
 -- What the bytes of a report say of the unit. Assumes nothing.
 use mathlib.Core.Path.{_≡_, refl, sym, _∙_, ap, ap₂, subst}
-use Prim.Native.Nat.{ℕ, _+_, min, _≤_, _<_}
+use Prim.Native.Nat.{ℕ, _+_}
 use native.Mathlib.Omega.{arith}
 use native.Mathlib.Decide.{decLt}
-use mathlib.Core.Bool.{Bool, true, false, cond, not, _&&_, _||_, false≢true, and-true, and-false, or-false}
-use mathlib.Core.Logic.{_⊎_, inl, inr}
+use mathlib.Core.Bool.{Bool, true, false, cond, _&&_, and-true, and-false, or-false}
+use mathlib.Core.Logic.{inl, inr}
 use mathlib.Core.List.{List, [], _∷_, _++_, map, zipWith, List·Memᴰ, Memᴰ·cast, Memᴰ·map, Memᴰ·of-map}
-use lib.Dec.{eqb, leb, ltb}
-use lib.ListN.{length, getD, drop}
-use borrow.Author.Tests.{eqb-true, eqb-false, ne-eqb, not-true, not-false, ltb-false, le-leb}
+use lib.Dec.{eqb, ltb}
+use borrow.Author.Tests.{eqb-false, ne-eqb, ltb-false}
 use Rattle.laws.proofs.Lists.{_∈_, not-true-false}
-use Rattle.wire.specs.Numbers.{byteAt, number, highByte, lowByte}
 use Rattle.wire.proofs.Values.{bytes-read, four-read}
 use Rattle.pressure.specs.Reference.{dropOf}
 use Rattle.curve.specs.declared.Curve.{Curve}
-use Rattle.curve.specs.declared.Interval.{Interval}
 use Rattle.curve.specs.declared.Judged.{Judged}
 use Rattle.curve.specs.Deceleration.{levelOf}
-use Rattle.curve.specs.Intervals.{rankOf, shownOf, shownNumber}
-use Rattle.curve.specs.Permitted.{permittedOf}
+use Rattle.curve.specs.Intervals.{rankOf, shownNumber}
 use Rattle.curve.specs.Changes.{never, toChange}
 use Rattle.curve.specs.Judging.{judgedOf}
-use Rattle.curve.specs.Places.{judgedHere, judgedAll}
-use Rattle.curve.proofs.Held.{held-judged, judged-held}
-use Rattle.rules.specs.Numbers.{isAccepted, isRefused, isState, stateNumber, orderNumber, barNumber, modeNumber, bitNumber}
-use Rattle.rules.specs.Operands.{bitOf}
-use Rattle.rules.specs.Places.{anyOf, freeCurve}
+use Rattle.places.specs.Places.{judgedHere}
+use Rattle.places.proofs.Held.{held-judged, judged-held}
+use Rattle.rules.specs.Numbers.{isAccepted, isState, orderNumber, barNumber, modeNumber, bitNumber}
+use Rattle.rules.specs.Places.{anyOf}
 use Rattle.rules.specs.Speeds.{brakingOf, judgedNow, vmaxOf, permittedSpeed}
 use Rattle.rules.specs.Table.{causes, stands, orderOf, pressedFor, isReleasable, isDropped}
 use Rattle.rules.specs.Odometer.{isInsufficient, seenIn}
 use Rattle.rules.specs.Shows.{candidate, goesBefore, chosen, shownAs, barOf, modeOf}
-use Rattle.rules.specs.Reports.{bitValue, causesNumber, messagesOf, wouldDrop, offeredOf, isOver, shownFields, changeOf, two, four, fields, reportWith, reportInDA, reportOutside, reportFor, reportOf}
+use Rattle.rules.specs.Reports.{causesNumber, messagesOf, wouldDrop, offeredOf, isOver, shownFields, changeOf, two, four, reportWith, reportInDA, reportOutside, reportFor, reportOf}
 use Rattle.rules.specs.Commands.{withLast, remembered, acceptedOf}
-use Rattle.rules.specs.Runs.{Sent, answerTo, stateAfter, momentOf, stateAtEnd, noneAccepted, freshens}
-use Rattle.rules.specs.History.{Tells, stateIn, orderIn, causesIn, permittedIn, vmaxIn, idIn, shownIn, barIn, modeIn, messagesIn, offeredIn, changeIn}
-use Rattle.rules.specs.History.{isIn, isSupervised, curveAt, Holds, brakingIn, intervalIn}
+use Rattle.rules.specs.Runs.{Sent, answerTo, stateAfter, momentOf, stateAtEnd}
+use Rattle.rules.specs.History.{Tells, causesIn, permittedIn, vmaxIn, messagesIn, offeredIn}
+use Rattle.rules.specs.History.{isIn, Holds, intervalIn}
 use Rattle.rules.specs.Claims.{UpToSources}
-use Rattle.rules.specs.Columns.{isShort, IsFree}
-use Rattle.rules.specs.Written.{Largest, strongest, permits, UpToPermitted, Offers, WrittenInDA, ReportInDA, GoesFirst, shownAsIn, isPastPermitted, Shows, ShowsNone, ShownInDA, StateAndOrder, WrittenOutside, ReportOutsideDA, MessagesTell, MessagesAreWritten}
+use Rattle.rules.specs.Columns.{IsFree}
+use Rattle.rules.specs.Written.{Largest, permits, UpToPermitted, Offers, WrittenInDA, ReportInDA, GoesFirst, Shows, ShowsNone, ShownInDA, StateAndOrder, WrittenOutside, ReportOutsideDA, MessagesAreWritten}
 use Rattle.rules.specs.declared.State.{State}
 use Rattle.rules.specs.declared.Cause.{Cause}
 use Rattle.rules.specs.declared.Causes.{Causes}
@@ -47,7 +42,7 @@ use Rattle.rules.specs.declared.Last.{Last}
 use Rattle.rules.specs.declared.Stm.{Stm}
 use Rattle.rules.proofs.Answers.{after-accepted, after-other}
 use Rattle.rules.proofs.Once.{answer-writes-report}
-use Rattle.rules.proofs.Tests.{impossible, both, and-both, and-left, zip-self}
+use Rattle.rules.proofs.Tests.{impossible, both, and-both, zip-self}
 use Rattle.rules.proofs.Told.{state-is}
 use Rattle.rules.proofs.Ordering.{doneBy}
 use Rattle.rules.proofs.Monotone.{any-in, any-from}

@@ -10,7 +10,7 @@ use Rattle.pressure.specs.Reference.{dropOf}
 use Rattle.pressure.specs.Report.{reportedTo}
 use Rattle.curve.specs.declared.Judged.{Judged}
 use Rattle.curve.specs.declared.Interval.{Interval}
-use Rattle.curve.specs.Places.{notedAll, anyBrakes}
+use Rattle.places.specs.Places.{notedAll, anyBrakes}
 use Rattle.rules.specs.Places.{withCurves, movedTrack}
 use Rattle.rules.specs.Speeds.{judgedNow, vmaxOf}
 use Rattle.rules.specs.Checks.{isDrop}

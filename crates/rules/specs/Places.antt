@@ -7,7 +7,7 @@ use lib.ListN.{replicate}
 use Rattle.curve.specs.declared.Kind.{Kind}
 use Rattle.curve.specs.declared.Direction.{Direction}
 use Rattle.curve.specs.declared.Curve.{Curve}
-use Rattle.curve.specs.Places.{places, movedAll}
+use Rattle.places.specs.Places.{places, movedAll}
 use Rattle.rules.specs.declared.Section.{Section}
 use Rattle.rules.specs.declared.Track.{Track}
 

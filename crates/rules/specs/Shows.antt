@@ -1,6 +1,6 @@
 -- The shown curve, its bar and its mode (01, "Report").
 use Prim.Native.Nat.{ℕ}
-use mathlib.Core.Bool.{Bool, false, cond, not, _&&_, _||_}
+use mathlib.Core.Bool.{Bool, cond, not, _&&_, _||_}
 use mathlib.Core.List.{List, [], _∷_, zipWith}
 use lib.Dec.{eqb, ltb}
 use Rattle.curve.specs.declared.Curve.{Curve}
@@ -8,7 +8,7 @@ use Rattle.curve.specs.declared.Interval.{Interval}
 use Rattle.curve.specs.declared.Shown.{Shown}
 use Rattle.curve.specs.declared.Judged.{Judged}
 use Rattle.curve.specs.Intervals.{rankOf, shownOf}
-use Rattle.curve.specs.Places.{noneJudged}
+use Rattle.places.specs.Places.{noneJudged}
 use Rattle.rules.specs.Places.{freeCurve}
 use Rattle.rules.specs.declared.Bar.{Bar}
 use Rattle.rules.specs.declared.Mode.{Mode}

@@ -7,7 +7,7 @@ use Rattle.curve.specs.declared.Braking.{Braking}
 use Rattle.curve.specs.declared.Judged.{Judged}
 use Rattle.curve.specs.Deceleration.{levelOf}
 use Rattle.curve.specs.Lead.{leadsOf}
-use Rattle.curve.specs.Places.{judgedAll, leastPermitted}
+use Rattle.places.specs.Places.{judgedAll, leastPermitted}
 use Rattle.rules.specs.declared.Train.{Train}
 use Rattle.rules.specs.declared.Section.{Section}
 use Rattle.rules.specs.declared.Track.{Track}

@@ -17,7 +17,7 @@ use Rattle.pressure.specs.Claims.{Each, afterAll, Agrees}
 use Rattle.curve.specs.declared.Curve.{Curve}
 use Rattle.rules.specs.Numbers.{isState}
 use Rattle.rules.specs.Operands.{trainInRange, curveInRange, sectionInRange}
-use Rattle.curve.specs.Places.{places}
+use Rattle.places.specs.Places.{places}
 use Rattle.rules.specs.Places.{allOf}
 use Rattle.rules.specs.Table.{anyStands, standsWith}
 use Rattle.rules.specs.Commands.{freshStm}

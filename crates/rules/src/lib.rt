@@ -84,8 +84,8 @@ pub struct Section {
 
 // What the track has told: curves, sections, and the 40 of an unexpected stop.
 pub struct Track {
-    pub curves: [curve::Curve; curve::PLACES],
-    pub sections: [Section; curve::PLACES],
+    pub curves: [curve::Curve; places::PLACES],
+    pub sections: [Section; places::PLACES],
     pub forty: bool,
 }
 

@@ -9,7 +9,7 @@ use native.Mathlib.Omega.{arith}
 use lib.ListN.{length, take, drop, set, getD, length-map, drop-of-length-le}
 use lib.Seq.{take-all, take-suc, drop-cons, append-snoc}
 use Rattle.laws.proofs.Lists.{copy-past, drop-step, map-step}
-use Rattle.curve.specs.Places.{places}
+use Rattle.places.specs.Places.{places}
 use Rattle.rules.specs.Places.{anyOf, allOf, placed}
 
 -- every place is changed, one after the other

@@ -6,7 +6,7 @@ use lib.ListN.{length, drop, getD, drop-of-length-le}
 use Rattle.laws.proofs.Lists.{drop-step, length-zip, getD-zip}
 use Rattle.curve.specs.declared.Curve.{Curve}
 use Rattle.curve.specs.declared.Judged.{Judged}
-use Rattle.curve.proofs.Loops.{noCurve, zeroJudged}
+use Rattle.places.proofs.Loops.{noCurve, zeroJudged}
 use Rattle.rules.specs.declared.Candidate.{Candidate}
 use Rattle.rules.specs.Shows.{candidate, noCandidate, chosenOf, chosenFrom, chosen}
 

@@ -7,7 +7,7 @@ use curve::Curve;
 use curve::Direction;
 use curve::Gradient;
 use curve::Kind;
-use curve::PLACES;
+use places::PLACES;
 
 // A place that holds no curve.
 pub fn free_curve() -> Curve

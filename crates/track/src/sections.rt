@@ -3,7 +3,7 @@ ghost use mathlib.Core.Path.{_≡_};
 ghost use mathlib.Core.Bool.{cond, not, _&&_};
 ghost use mathlib.Core.List.{map};
 ghost use Rattle.rules.specs.Places.{placed, freeSection, isSection, holdsSection, standsSection, allSectionsHeld, replacedSection, givenSection, endingSection, endedSection, movedSection};
-use curve::PLACES;
+use places::PLACES;
 use rules::Section;
 
 // A place that holds no section.

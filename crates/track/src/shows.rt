@@ -7,8 +7,8 @@ use crate::whole::braking_of;
 use curve::Curve;
 use curve::Interval;
 use curve::Judged;
-use curve::PLACES;
 use curve::Shown;
+use places::PLACES;
 use rules::Bar;
 use rules::Candidate;
 use rules::Kept;
@@ -20,7 +20,7 @@ fn no_candidate() -> Candidate
 {
     Candidate {
         curve: free_curve(),
-        judged: curve::none_judged(),
+        judged: places::none_judged(),
     }
 }
 

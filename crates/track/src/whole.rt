@@ -10,7 +10,7 @@ use crate::sections::move_sections;
 use curve::Braking;
 use curve::Curve;
 use curve::Judged;
-use curve::PLACES;
+use places::PLACES;
 use rules::Kept;
 use rules::Section;
 use rules::Track;
@@ -60,7 +60,7 @@ pub fn moved_track(length: u16, moved: u16, track: Track) -> Track
     let curves = track.curves;
     let sections = track.sections;
     Track {
-        curves: curve::move_all(curves, moved),
+        curves: places::move_all(curves, moved),
         sections: move_sections(length, moved, sections),
         forty: track.forty,
     }
@@ -82,7 +82,7 @@ pub fn braking_of(train: Train, halka: bool) -> Braking
 pub fn judge_now(train: Train, kept: Kept, curves: [Curve; PLACES]) -> [Judged; PLACES]
     ensures { λ r. ⌜ r ≡ judgedNow train kept curves ⌝ }
 {
-    curve::judge_all(curves, braking_of(train, kept.halka), kept.speed)
+    places::judge_all(curves, braking_of(train, kept.halka), kept.speed)
 }
 
 fn lower(x: u16, y: u16) -> u16
@@ -130,5 +130,5 @@ pub fn vmax_of(train: Train, track: Track) -> u16
 pub fn permitted_speed(vmax: u16, judged: [Judged; PLACES]) -> u16
     ensures { λ r. ⌜ r ≡ permittedSpeed vmax judged ⌝ }
 {
-    lower(vmax, curve::least_permitted(judged))
+    lower(vmax, places::least_permitted(judged))
 }

@@ -16,7 +16,7 @@ use Rattle.curve.specs.Boundary.{targetOf, isAbove, lineFor, isReached, isReach
 use Rattle.curve.specs.Intervals.{intervalOf}
 use Rattle.curve.specs.Permitted.{permittedOf}
 use Rattle.curve.specs.Judging.{isFast, brakesAt, judgedOf, notedAt}
-use Rattle.curve.specs.Places.{noneJudged, judgedHere, judgedAll, notedAll}
+use Rattle.places.specs.Places.{noneJudged, judgedHere, judgedAll, notedAll}
 use Rattle.rules.specs.Places.{withCurves}
 use Rattle.rules.specs.Speeds.{judgedNow, vmaxOf}
 use Rattle.rules.specs.Checks.{isDrop}

@@ -151,7 +151,7 @@ fn supervise(command: &[u8], r: Reading, stm: Stm) -> Stm
         state: state_after(added.failed, state),
     };
     next.control = led;
-    next.track = with_curves(track, curve::note_all(curves, judged));
+    next.track = with_curves(track, places::note_all(curves, judged));
     next.brakes = left;
     next.feedback = measured;
     next.kept = kept;

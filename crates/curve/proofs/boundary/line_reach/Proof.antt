@@ -1,7 +1,6 @@
 -- `curve::boundary::line_reach` meets its contract.
 use mathlib.Core.Path.{sym, _∙_}
 use lib.Dec.{lit≤}
-use borrow.Author.Needs.{needs}
 use Rattle.curve.specs.Boundary.{lineFor}
 use Rattle.curve.proofs.Ground.{holds-on, left-none, left-is}
 use Rattle.curve.proofs.boundary.line_reach.Statement.{statement}
@@ -14,10 +13,11 @@ returns : tie.Need-returns
 returns c =
     let o = c .before .before in
     let a = o .args in
-    let holds = sym (c .before .line-holds .ensures) ∙ c .if1 .taken in
-    (sym holds,
-    sym (left-none (λ x. lineFor x (a .level) 50 (a .u) 10 (a .lead)) (a .curve)
-    (holds-on (a .curve) (a .level) (a .u) (a .lead) (o .pre .2)) holds))
+    let holds = sym (c .before .line-holds .ensures) ∙ c .if1 .taken in (
+      sym holds,
+      sym (left-none (λ x. lineFor x (a .level) 50 (a .u) 10 (a .lead)) (a .curve)
+          (holds-on (a .curve) (a .level) (a .u) (a .lead) (o .pre .2)) holds),
+    )
 
 ground-left-requires : tie.Need-ground-left-requires
 ground-left-requires c κs =

@@ -4,7 +4,7 @@ use mathlib.Core.Path.{refl}
 use mathlib.Core.Bool.{cond}
 use native.Mathlib.Omega.{arith}
 use borrow.Author.Needs.{needs}
-use Rattle.curve.specs.Places.{places}
+use Rattle.places.specs.Places.{places}
 use Rattle.rules.specs.Places.{freeCurve, isCurve, endedCurve}
 use Rattle.track.proofs.Loops.{Changed, change-step, change-end}
 use Rattle.track.proofs.curves.end_curve.Statement.{statement}

@@ -3,7 +3,7 @@ use Prim.Native.Nat.{_-_}
 use mathlib.Core.Path.{refl}
 use native.Mathlib.Omega.{arith}
 use borrow.Author.Needs.{needs}
-use Rattle.curve.specs.Places.{places}
+use Rattle.places.specs.Places.{places}
 use Rattle.rules.specs.Places.{freeCurve, replacedCurve}
 use Rattle.track.proofs.Loops.{Changed, change-step, change-end}
 use Rattle.track.proofs.curves.replace_curve.Statement.{statement}

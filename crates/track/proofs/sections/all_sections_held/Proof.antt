@@ -3,7 +3,7 @@ use Prim.Native.Nat.{_-_}
 use mathlib.Core.Path.{refl}
 use native.Mathlib.Omega.{arith}
 use borrow.Author.Needs.{needs}
-use Rattle.curve.specs.Places.{places}
+use Rattle.places.specs.Places.{places}
 use Rattle.rules.specs.Places.{freeSection}
 use Rattle.track.proofs.Loops.{All, all-step, all-end}
 use Rattle.track.proofs.sections.all_sections_held.Statement.{statement}

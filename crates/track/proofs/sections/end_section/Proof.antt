@@ -4,7 +4,7 @@ use mathlib.Core.Path.{refl}
 use mathlib.Core.Bool.{cond}
 use native.Mathlib.Omega.{arith}
 use borrow.Author.Needs.{needs}
-use Rattle.curve.specs.Places.{places}
+use Rattle.places.specs.Places.{places}
 use Rattle.rules.specs.Places.{freeSection, isSection, endingSection, endedSection}
 use Rattle.track.proofs.Loops.{Changed, change-step, change-end}
 use Rattle.track.proofs.sections.end_section.Statement.{statement}

@@ -3,7 +3,7 @@ use Prim.Native.Nat.{_-_}
 use mathlib.Core.Path.{refl}
 use native.Mathlib.Omega.{arith}
 use borrow.Author.Needs.{needs}
-use Rattle.curve.specs.Places.{places}
+use Rattle.places.specs.Places.{places}
 use Rattle.rules.specs.Places.{freeSection, isSection}
 use Rattle.track.proofs.Loops.{Any, any-step, any-end}
 use Rattle.track.proofs.sections.holds_section.Statement.{statement}

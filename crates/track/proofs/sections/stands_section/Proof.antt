@@ -4,7 +4,7 @@ use mathlib.Core.Path.{refl}
 use mathlib.Core.Bool.{not, _&&_}
 use native.Mathlib.Omega.{arith}
 use borrow.Author.Needs.{needs}
-use Rattle.curve.specs.Places.{places}
+use Rattle.places.specs.Places.{places}
 use Rattle.rules.specs.Places.{freeSection, isSection}
 use Rattle.track.proofs.Loops.{Any, any-step, any-end}
 use Rattle.track.proofs.sections.stands_section.Statement.{statement}

@@ -4,7 +4,7 @@ use mathlib.Core.Path.{_≡_, sym, _∙_}
 use native.Mathlib.Omega.{arith}
 use lib.ListN.{length}
 use borrow.Author.Needs.{needs}
-use Rattle.curve.specs.Places.{places}
+use Rattle.places.specs.Places.{places}
 use Rattle.rules.specs.Shows.{chosen}
 use Rattle.track.proofs.Showing.{chosenAt, chosen-start, chosen-step, chosen-end}
 use Rattle.track.proofs.shows.chosen.Statement.{statement}

@@ -6,7 +6,7 @@ use native.Mathlib.Omega.{arith}
 use lib.ListN.{length, drop, drop-of-length-le}
 use borrow.Author.Needs.{needs}
 use Rattle.laws.proofs.Lists.{drop-step}
-use Rattle.curve.specs.Places.{places}
+use Rattle.places.specs.Places.{places}
 use Rattle.rules.specs.Places.{freeSection}
 use Rattle.rules.specs.Speeds.{sectionSpeed}
 use Rattle.track.proofs.whole.least_speed.Statement.{statement}

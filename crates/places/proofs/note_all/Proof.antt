@@ -1,4 +1,4 @@
--- `curve::places::note_all` meets its contract.
+-- `places::note_all` meets its contract.
 use Prim.Native.Nat.{_≤_, _-_}
 use mathlib.Core.Path.{_≡_, refl, _∙_}
 use mathlib.Core.List.{_++_}
@@ -6,11 +6,11 @@ use native.Mathlib.Omega.{arith}
 use lib.ListN.{length, take, drop}
 use borrow.Author.Needs.{needs}
 use Rattle.laws.proofs.Lists.{copy-past, zip-step, length-zip}
 use Rattle.curve.specs.Judging.{notedAt}
-use Rattle.curve.specs.Places.{places, notedAll}
-use Rattle.curve.proofs.Loops.{noCurve, zeroJudged}
-use Rattle.curve.proofs.places.note_all.Statement.{statement}
-use Rattle.curve.proofs.places.note_all.Tie as tie
+use Rattle.places.specs.Places.{places, notedAll}
+use Rattle.places.proofs.Loops.{noCurve, zeroJudged}
+use Rattle.places.proofs.note_all.Statement.{statement}
+use Rattle.places.proofs.note_all.Tie as tie
 
 abbrev Inv-loop : tie.InvT-loop
 Inv-loop curves judged next₀ i₀ next i =

@@ -1,13 +1,13 @@
--- `curve::places::least_permitted` meets its contract.
+-- `places::least_permitted` meets its contract.
 use Prim.Native.Nat.{_≤_, _-_, min}
 use mathlib.Core.Path.{_≡_, _∙_}
 use native.Mathlib.Omega.{arith}
 use lib.ListN.{length, drop}
 use borrow.Author.Needs.{needs}
-use Rattle.curve.specs.Places.{places, leastPermitted}
-use Rattle.curve.proofs.Loops.{least-start, least-step, least-end}
-use Rattle.curve.proofs.places.least_permitted.Statement.{statement}
-use Rattle.curve.proofs.places.least_permitted.Tie as tie
+use Rattle.places.specs.Places.{places, leastPermitted}
+use Rattle.places.proofs.Loops.{least-start, least-step, least-end}
+use Rattle.places.proofs.least_permitted.Statement.{statement}
+use Rattle.places.proofs.least_permitted.Tie as tie
 
 abbrev Inv-loop : tie.InvT-loop
 Inv-loop judged least₀ i₀ least i =

@@ -1,16 +1,16 @@
 // The sixteen places of curves: what is done to all of them, or asked of all.
 ghost use mathlib.Core.Path.{_≡_};
 ghost use Prim.Native.Nat.{min};
-ghost use Rattle.curve.specs.Places.{movedHere, movedAll, noneJudged, judgedHere, judgedAll, notedAll, permittedHere, leastPermitted, brakesFrom, anyBrakes};
-use crate::Braking;
-use crate::Curve;
-use crate::Interval;
-use crate::Judged;
-use crate::intervals::rank_of;
-use crate::judging::judge;
-use crate::judging::moved_by;
-use crate::judging::noted;
-use crate::permitted::TOP;
+ghost use Rattle.places.specs.Places.{movedHere, movedAll, noneJudged, judgedHere, judgedAll, notedAll, permittedHere, leastPermitted, brakesFrom, anyBrakes};
+use curve::Braking;
+use curve::Curve;
+use curve::Interval;
+use curve::Judged;
+use curve::TOP;
+use curve::judge;
+use curve::moved_by;
+use curve::noted;
+use curve::rank_of;
 
 // How many curves a unit holds.
 pub const PLACES: usize = 16;

@@ -6,13 +6,13 @@ use mathlib.Core.List.{List, [], _∷_}
 use native.Mathlib.Omega.{arith}
 use lib.ListN.{length, drop, getD, drop-of-length-le}
 use Rattle.laws.proofs.Lists.{drop-step}
-use Rattle.curve.specs.Places.{permittedHere, leastPermitted, brakesFrom, anyBrakes}
+use Rattle.places.specs.Places.{permittedHere, leastPermitted, brakesFrom, anyBrakes}
 use Rattle.curve.specs.declared.Kind.the-variants.{SpeedTarget}
 use Rattle.curve.specs.declared.Direction.the-variants.{Up}
 use Rattle.curve.specs.declared.Curve.{Curve}
 use Rattle.curve.specs.declared.Interval.{Interval}
 use Rattle.curve.specs.declared.Interval.the-variants.{A}
 use Rattle.curve.specs.declared.Judged.{Judged}
 
 -- what a read past the end of an array would give
 abbrev pub noCurve : Curve

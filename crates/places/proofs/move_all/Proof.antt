@@ -1,4 +1,4 @@
--- `curve::places::move_all` meets its contract.
+-- `places::move_all` meets its contract.
 use Prim.Native.Nat.{_≤_, _-_}
 use mathlib.Core.Path.{_≡_, refl, _∙_}
 use mathlib.Core.List.{_++_}
@@ -6,10 +6,10 @@ use native.Mathlib.Omega.{arith}
 use lib.ListN.{length, take, drop, length-map}
 use borrow.Author.Needs.{needs}
 use Rattle.laws.proofs.Lists.{copy-past, map-step}
-use Rattle.curve.specs.Places.{places, movedHere, movedAll}
-use Rattle.curve.proofs.Loops.{noCurve}
-use Rattle.curve.proofs.places.move_all.Statement.{statement}
-use Rattle.curve.proofs.places.move_all.Tie as tie
+use Rattle.places.specs.Places.{places, movedHere, movedAll}
+use Rattle.places.proofs.Loops.{noCurve}
+use Rattle.places.proofs.move_all.Statement.{statement}
+use Rattle.places.proofs.move_all.Tie as tie
 
 abbrev Inv-loop : tie.InvT-loop
 Inv-loop moved curves next₀ i₀ next i = (i ≤ places) × (length curves ≡ places) × (next ≡ take i (movedAll moved curves) ++ drop i curves)

@@ -1,14 +1,14 @@
--- `curve::places::any_brakes` meets its contract.
+-- `places::any_brakes` meets its contract.
 use Prim.Native.Nat.{_≤_, _-_}
 use mathlib.Core.Path.{_≡_, refl, _∙_}
 use mathlib.Core.Bool.{_||_}
 use native.Mathlib.Omega.{arith}
 use lib.ListN.{length, drop}
 use borrow.Author.Needs.{needs}
-use Rattle.curve.specs.Places.{places, anyBrakes}
-use Rattle.curve.proofs.Loops.{any-step, any-end}
-use Rattle.curve.proofs.places.any_brakes.Statement.{statement}
-use Rattle.curve.proofs.places.any_brakes.Tie as tie
+use Rattle.places.specs.Places.{places, anyBrakes}
+use Rattle.places.proofs.Loops.{any-step, any-end}
+use Rattle.places.proofs.any_brakes.Statement.{statement}
+use Rattle.places.proofs.any_brakes.Tie as tie
 
 abbrev Inv-loop : tie.InvT-loop
 Inv-loop interval judged any₀ i₀ any i =

@@ -1,6 +1,6 @@
--- `curve::places::brakes_from` meets its contract.
-use Rattle.curve.proofs.places.brakes_from.Statement.{statement}
-use Rattle.curve.proofs.places.brakes_from.Tie as tie
+-- `places::brakes_from` meets its contract.
+use Rattle.places.proofs.brakes_from.Statement.{statement}
+use Rattle.places.proofs.brakes_from.Tie as tie
 
 rank-of-requires : tie.Need-rank-of-requires
 rank-of-requires c κs = tt

@@ -1,4 +1,4 @@
--- `curve::places::judge_all` meets its contract.
+-- `places::judge_all` meets its contract.
 use Prim.Native.Nat.{_≤_, _-_}
 use mathlib.Core.Path.{_≡_, refl, _∙_}
 use mathlib.Core.List.{List, _++_}
@@ -6,11 +6,11 @@ use native.Mathlib.Omega.{arith}
 use lib.ListN.{length, take, drop, replicate, length-map}
 use borrow.Author.Needs.{needs}
 use Rattle.laws.proofs.Lists.{copy-past, map-step}
-use Rattle.curve.specs.Places.{places, judgedHere, judgedAll}
+use Rattle.places.specs.Places.{places, judgedHere, judgedAll}
 use Rattle.curve.specs.declared.Judged.{Judged}
-use Rattle.curve.proofs.Loops.{noCurve}
-use Rattle.curve.proofs.places.judge_all.Statement.{statement}
-use Rattle.curve.proofs.places.judge_all.Tie as tie
+use Rattle.places.proofs.Loops.{noCurve}
+use Rattle.places.proofs.judge_all.Statement.{statement}
+use Rattle.places.proofs.judge_all.Tie as tie
 
 -- the array before the loop
 abbrev start : Judged → List Judged

@@ -1,6 +1,6 @@
--- `curve::places::judge_here` meets its contract.
-use Rattle.curve.proofs.places.judge_here.Statement.{statement}
-use Rattle.curve.proofs.places.judge_here.Tie as tie
+-- `places::judge_here` meets its contract.
+use Rattle.places.proofs.judge_here.Statement.{statement}
+use Rattle.places.proofs.judge_here.Tie as tie
 
 judge-requires : tie.Need-judge-requires
 judge-requires c κs = tt

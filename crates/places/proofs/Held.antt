@@ -2,12 +2,12 @@
 use Prim.Native.Nat.{ℕ}
 use mathlib.Core.Path.{_≡_, refl, sym, _∙_, ap}
 use mathlib.Core.Bool.{Bool, true, false, cond, false≢true, or-false}
 use Rattle.curve.specs.Judging.{movedBy, judgedOf, notedAt}
-use Rattle.curve.specs.Places.{movedHere, noneJudged, judgedHere, permittedHere, brakesFrom}
+use Rattle.places.specs.Places.{movedHere, noneJudged, judgedHere, permittedHere, brakesFrom}
 use Rattle.curve.specs.declared.Curve.{Curve}
 use Rattle.curve.specs.declared.Braking.{Braking}
 use Rattle.curve.specs.declared.Interval.{Interval}
 use Rattle.curve.specs.declared.Interval.the-variants.{A}
 
 -- ---- where a curve is held
 

@@ -1,6 +1,6 @@
--- `curve::places::moved_here` meets its contract.
-use Rattle.curve.proofs.places.moved_here.Statement.{statement}
-use Rattle.curve.proofs.places.moved_here.Tie as tie
+-- `places::moved_here` meets its contract.
+use Rattle.places.proofs.moved_here.Statement.{statement}
+use Rattle.places.proofs.moved_here.Tie as tie
 
 moved-by-requires : tie.Need-moved-by-requires
 moved-by-requires c κs = tt

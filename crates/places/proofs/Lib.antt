@@ -1,0 +1,2 @@
+pub mod Held
+pub mod Loops
