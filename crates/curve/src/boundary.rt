@@ -92,8 +92,8 @@ pub fn reached_at_kmh(curve: Curve, level: u16, k: u16, lead: u16) -> bool
 // What is told of a boundary that is not reached down to distance 0.
 pub const NEVER: u32 = 4294967295;
 
-// The ground that can still be covered where the line doesn't hold. It holds from the largest distance
-// on of which 810 × b times is not above 50 × (u² − w²) + 81 × b × lead.
+// The ground that can still be covered where the line doesn't hold. It holds at each distance x with
+// 810 × b × x ≤ 50 × (u² − w²) + 81 × b × lead.
 fn ground_left(curve: Curve, level: u16, u: u32, lead: u64) -> u32
     requires { ⌜ (u ≤ 16777215) × (lead ≤ 1099511627776) × (targetOf curve < u) × (lineFor curve level 50 u 10 lead ≡ false) ⌝ }
     ensures { λ r. ⌜ r ≡ largestFailing (λ n. lineFor (movedBy curve n) level 50 u 10 lead) (curve .distance) ⌝ }

@@ -18,7 +18,8 @@ fn longer(x: u16, y: u16) -> u16
     if x <= y { y } else { x }
 }
 
-// The longest lead of the boundaries after an interval, E's 0 among them: of these its own is reached first.
+// The longest lead of the boundaries after an interval, E's 0 among them: its boundary is the first of
+// them to be reached.
 fn lead_after(interval: Interval, leads: Leads) -> u16
     ensures { λ r. ⌜ r ≡ leadAfter interval leads ⌝ }
 {
