@@ -31,10 +31,10 @@ abbrev figureAt : ℕ → ℕ → ℕ
 figureAt distance speed = figureAfter (to40 distance ∷ []) (leaving distance speed 0)
 
 pub record ChangeFigures : Type 0 where
-  -- "D at 43,324 cm has 7,499; at 43,325 the next centimetre changes it, so 0"
+  -- 01's curve (b 700, 2,500 cm/s, target 40, T_B 30): D at 43,324 cm, with E at 35,824; at 43,325 the next centimetre is D
   pub inD : figureAt 43324 2500 ≡ 7499
   pub beforeD : figureAt 43325 2500 ≡ 0
-  -- E begins at 35,824 cm and has F before it, with u' for u, at 26,455
+  -- in E, F is next, with u' for u, at 26,455 cm
   pub inE : figureAt 35824 2500 ≡ 9368
   pub beforeF : figureAt 26456 2500 ≡ 0
   -- nothing comes after F

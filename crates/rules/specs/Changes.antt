@@ -13,7 +13,7 @@ use Rattle.rules.specs.declared.Stm.{Stm}
 abbrev pub intervalAt : ℕ → Stm → Interval
 intervalAt place stm = intervalIn stm (curveAt place stm)
 
--- an accepted command leaves the unit in DA, and its report shows the curve at this place
+-- the report of an accepted command shows the curve at this place; an id is held once in a unit
 pub record ShownAt (stm : Stm) (x : Sent) (place : ℕ) : Type 0 where
   pub accepted : isAccepted (answerTo stm x) ≡ true
   pub held : curveAt place (stateAfter stm x) .held ≡ true
