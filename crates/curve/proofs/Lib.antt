@@ -1,8 +1,6 @@
-pub mod Changes
-pub mod Divided
-pub mod Figures
 pub mod Ground
-pub mod Halving
+pub mod Largest
 pub mod Line
+pub mod Reaching
 pub mod Stricter
 pub mod Widths

@@ -1,9 +1,5 @@
 pub mod Deceleration
 pub mod Lead
 pub mod Boundary
-pub mod Intervals
-pub mod Permitted
-pub mod Judging
-pub mod Changes
+pub mod Ground
 pub mod Claims
-pub mod Figures

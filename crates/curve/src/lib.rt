@@ -1,14 +1,11 @@
-// The curves of 01, "Curves": boundaries, intervals, permitted speeds, and how far to a change.
+// The curves of 01, "Curves": decelerations, leads, boundaries, and the ground left to them. Its types are here too.
 //
 // Speeds v are in cm/s, limits and targets in whole km/h, distances in cm, times in tenths of a
 // second, decelerations in mm/s². Every function answers at every value of its parameters.
 mod boundary;
-mod change;
 mod deceleration;
-mod intervals;
-mod judging;
 mod lead;
-mod permitted;
+mod moved;
 
 pub use boundary::NEVER;
 pub use boundary::f_reach_of;
@@ -16,21 +13,11 @@ pub use boundary::f_reached;
 pub use boundary::reach_of;
 pub use boundary::reached;
 pub use boundary::reached_at_kmh;
-pub use change::to_change;
 pub use deceleration::deceleration_of;
 pub use deceleration::gradient_from;
 pub use deceleration::level_of;
-pub use intervals::interval_of;
-pub use intervals::rank_of;
-pub use intervals::shown_number;
-pub use intervals::shown_of;
-pub use judging::brakes_at;
-pub use judging::judge;
-pub use judging::moved_by;
-pub use judging::noted;
 pub use lead::leads_of;
-pub use permitted::TOP;
-pub use permitted::permitted_of;
+pub use moved::moved_by;
 
 // The kinds of a curve: 0 speed target, 1 Expect Stop.
 pub enum Kind {

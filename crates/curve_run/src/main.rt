@@ -54,10 +54,10 @@ fn put_interval(interval: Interval) {
 // What a curve says, with its past in B noted.
 fn put_judged(c: Curve, j: Judged) {
     let interval = j.interval;
-    let shown = curve::shown_of(c.past, interval);
+    let shown = interval::shown_of(c.past, interval);
     put(b": ");
     put_interval(interval);
-    put_number(b" shown ", curve::shown_number(shown) as u64);
+    put_number(b" shown ", interval::shown_number(shown) as u64);
     put_number(b" permitted ", j.permitted as u64);
     put_flag(b" brakes", j.brakes);
     put_flag(b" past", c.past);
@@ -76,14 +76,14 @@ fn judge_one(r: &[u8]) {
     let c = curve::moved_by(curve_of(r, true), moved_of(r));
     let gradient = c.gradient;
     let b = curve::deceleration_of(braking.level, gradient);
-    let j = curve::judge(c, braking, v);
+    let j = interval::judge(c, braking, v);
     let interval = j.interval;
     put_number(b"v ", v as u64);
     put_number(b" b ", b as u64);
     put_curve(c);
-    put_judged(curve::noted(c, interval), j);
+    put_judged(interval::noted(c, interval), j);
     put_flag(b" over", is_over(c, braking, v));
-    put_number(b" left ", curve::to_change(c, braking, v) as u64);
+    put_number(b" left ", interval::to_change(c, braking, v) as u64);
     put(b"\n");
 }
 

@@ -2,7 +2,8 @@
 use Prim.Native.Nat.{ℕ}
 use mathlib.Core.Path.{_≡_, refl, sym, _∙_, ap}
 use mathlib.Core.Bool.{Bool, true, false, cond, false≢true, or-false}
-use Rattle.curve.specs.Judging.{movedBy, judgedOf, notedAt}
+use Rattle.curve.specs.Ground.{movedBy}
+use Rattle.interval.specs.Judging.{judgedOf, notedAt}
 use Rattle.places.specs.Places.{movedHere, noneJudged, judgedHere, permittedHere, brakesFrom}
 use Rattle.curve.specs.declared.Curve.{Curve}
 use Rattle.curve.specs.declared.Braking.{Braking}

@@ -3,8 +3,9 @@ use Prim.Native.Nat.{ℕ, min}
 use mathlib.Core.Bool.{Bool, false, cond, _&&_, _||_}
 use mathlib.Core.List.{List, [], _∷_, map, zipWith}
 use lib.Dec.{leb}
-use Rattle.curve.specs.Intervals.{rankOf}
-use Rattle.curve.specs.Judging.{movedBy, judgedOf, notedAt}
+use Rattle.interval.specs.Intervals.{rankOf}
+use Rattle.curve.specs.Ground.{movedBy}
+use Rattle.interval.specs.Judging.{judgedOf, notedAt}
 use Rattle.curve.specs.declared.Curve.{Curve}
 use Rattle.curve.specs.declared.Braking.{Braking}
 use Rattle.curve.specs.declared.Interval.{Interval}

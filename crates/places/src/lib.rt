@@ -6,11 +6,11 @@ use curve::Braking;
 use curve::Curve;
 use curve::Interval;
 use curve::Judged;
-use curve::TOP;
-use curve::judge;
 use curve::moved_by;
-use curve::noted;
-use curve::rank_of;
+use interval::TOP;
+use interval::judge;
+use interval::noted;
+use interval::rank_of;
 
 // How many curves a unit holds.
 pub const PLACES: usize = 16;

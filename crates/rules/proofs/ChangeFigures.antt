@@ -4,9 +4,9 @@ use Prim.Native.Nat.{ℕ}
 use mathlib.Core.Bool.{true, cond}
 use mathlib.Core.List.{List, [], _∷_}
 use Rattle.wire.proofs.Values.{four-read}
-use Rattle.curve.specs.Changes.{never}
-use Rattle.curve.specs.Intervals.{intervalOf}
-use Rattle.curve.proofs.Divided.{changeFrom, change-divided}
+use Rattle.curve.specs.Ground.{never}
+use Rattle.interval.specs.Intervals.{intervalOf}
+use Rattle.interval.proofs.Divided.{changeFrom, change-divided}
 use Rattle.rules.specs.Numbers.{isAccepted}
 use Rattle.rules.specs.Speeds.{brakingOf}
 use Rattle.rules.specs.Reports.{changeOf}

@@ -12,11 +12,12 @@ use Rattle.laws.proofs.Lists.{_∈_}
 use Rattle.wire.specs.Numbers.{byteAt}
 use Rattle.wire.specs.Form.{operandsOf}
 use Rattle.curve.specs.Deceleration.{levelOf}
-use Rattle.curve.specs.Intervals.{intervalOf}
-use Rattle.curve.specs.Judging.{movedBy, judgedOf}
-use Rattle.curve.specs.Changes.{toChange}
+use Rattle.interval.specs.Intervals.{intervalOf}
+use Rattle.curve.specs.Ground.{movedBy}
+use Rattle.interval.specs.Judging.{judgedOf}
+use Rattle.interval.specs.Changes.{toChange}
 use Rattle.curve.specs.Claims.{StaysFor}
-use Rattle.curve.proofs.Changes.{change-is-told}
+use Rattle.interval.proofs.Changes.{change-is-told}
 use Rattle.rules.specs.Numbers.{codeOf}
 use Rattle.rules.specs.Operands.{codeByte, twoAt, readingOf, odometerInRange, inRange}
 use Rattle.rules.specs.Places.{freeCurve}

@@ -16,7 +16,7 @@ use Rattle.wire.specs.Numbers.{byteAt}
 use Rattle.wire.specs.Codes.{commands}
 use Rattle.wire.specs.declared.form.Form.{Form}
 use Rattle.wire.specs.Form.{formOf, refusalOf, operandsOf}
-use Rattle.curve.specs.Intervals.{rankOf}
+use Rattle.interval.specs.Intervals.{rankOf}
 use Rattle.places.specs.Places.{permittedHere, leastPermitted}
 use Rattle.curve.specs.declared.Judged.{Judged}
 use Rattle.rules.specs.Numbers.{answerNumber, codeOf}

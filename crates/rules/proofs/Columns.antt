@@ -14,8 +14,8 @@ use Rattle.curve.specs.Deceleration.{levelOf}
 use Rattle.curve.specs.declared.Kind.{Kind}
 use Rattle.curve.specs.declared.Curve.{Curve}
 use Rattle.curve.specs.declared.Interval.{Interval}
-use Rattle.curve.specs.Intervals.{rankOf}
-use Rattle.curve.specs.Judging.{isFastFor, isFast, brakesAt, judgedOf}
+use Rattle.interval.specs.Intervals.{rankOf}
+use Rattle.interval.specs.Judging.{isFastFor, isFast, brakesAt, judgedOf}
 use Rattle.places.specs.Places.{anyBrakes}
 use Rattle.wire.specs.Numbers.{byteAt}
 use Rattle.wire.specs.Form.{operandsOf}

@@ -13,9 +13,10 @@ use Rattle.pressure.specs.Report.{freshFeedback, pressureAt, phaseAfter, report
 use Rattle.curve.specs.Deceleration.{levelOf, decelerationOf}
 use Rattle.curve.specs.Lead.{leadsOf}
 use Rattle.curve.specs.Boundary.{targetOf, isAbove, leftSide, rightSide, line, lineFor, isReached, isReachedF, isReachedAtKmh}
-use Rattle.curve.specs.Intervals.{intervalOf, shownOf}
-use Rattle.curve.specs.Permitted.{largestFailing, permittedOf}
-use Rattle.curve.specs.Judging.{isFast, brakesAt, judgedOf}
+use Rattle.interval.specs.Intervals.{intervalOf, shownOf}
+use Rattle.curve.specs.Ground.{largestFailing}
+use Rattle.interval.specs.Permitted.{permittedOf}
+use Rattle.interval.specs.Judging.{isFast, brakesAt, judgedOf}
 use Rattle.places.specs.Places.{leastPermitted, anyBrakes}
 use Rattle.rules.specs.Numbers.{codeOf, stateOf}
 use Rattle.rules.specs.Operands.{trainOf, trainInRange, startInRange, readingOf, odometerInRange}

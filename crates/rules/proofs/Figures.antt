@@ -2,7 +2,7 @@
 use mathlib.Core.Path.{refl}
 use lib.Ieee.{eq}
 use Rattle.pressure.specs.Figures.{pressureFigures}
-use Rattle.curve.specs.Figures.{curveFigures}
+use Rattle.interval.specs.Figures.{curveFigures}
 use Rattle.rules.specs.Figures.{unitAt100, writtenAfter, speedFigures, stopFigures, figures, FiguresHold}
 use Rattle.rules.proofs.Computing.{computing}
 

@@ -9,7 +9,8 @@ use lib.Dec.{eqb}
 use lib.ListN.{getD}
 use borrow.Author.Tests.{not-true}
 use Rattle.curve.specs.declared.Curve.{Curve}
-use Rattle.curve.specs.Judging.{movedBy, judgedOf, notedAt}
+use Rattle.curve.specs.Ground.{movedBy}
+use Rattle.interval.specs.Judging.{judgedOf, notedAt}
 use Rattle.places.specs.Places.{movedHere, movedAll, judgedHere}
 use Rattle.places.proofs.Held.{held-moved, held-judged}
 use Rattle.wire.specs.Numbers.{byteAt}

@@ -11,8 +11,9 @@ use Rattle.curve.specs.declared.Curve.{Curve}
 use Rattle.curve.specs.declared.Interval.{Interval}
 use Rattle.curve.specs.Deceleration.{levelOf}
 use Rattle.curve.specs.Boundary.{targetOf, isAbove, lineFor, isReached, isReachedF}
-use Rattle.curve.specs.Intervals.{intervalOf, rankOf}
-use Rattle.curve.specs.Judging.{movedBy, judgedOf, notedAt}
+use Rattle.interval.specs.Intervals.{intervalOf, rankOf}
+use Rattle.curve.specs.Ground.{movedBy}
+use Rattle.interval.specs.Judging.{judgedOf, notedAt}
 use Rattle.rules.specs.Numbers.{isAccepted, isCode, isState, codeOf, stateOf}
 use Rattle.rules.specs.Operands.{codeByte, readingOf, curveOf}
 use Rattle.rules.specs.Places.{freeCurve, movedTrack}

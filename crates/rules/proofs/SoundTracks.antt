@@ -8,7 +8,8 @@ use lib.Dec.{leb, ltb}
 use borrow.Author.Tests.{leb-true, leb-false, le-leb, lt-ltb}
 use Rattle.curve.specs.declared.Curve.{Curve}
 use Rattle.curve.specs.declared.Judged.{Judged}
-use Rattle.curve.specs.Judging.{movedBy, notedAt}
+use Rattle.curve.specs.Ground.{movedBy}
+use Rattle.interval.specs.Judging.{notedAt}
 use Rattle.places.specs.Places.{movedAll, notedAll}
 use Rattle.rules.specs.Operands.{speedInRange, curveInRange, sectionInRange}
 use Rattle.rules.specs.Places.{allOf, freeCurve, freeSection, freshTrack, isCurve, isSection, withPast, givenCurve, endedCurve, givenSection, endingSection, endedSection, movedSection, movedTrack}

@@ -12,13 +12,14 @@ use Rattle.curve.specs.declared.Curve.{Curve}
 use Rattle.curve.specs.declared.Braking.{Braking}
 use Rattle.curve.specs.declared.Interval.{Interval}
 use Rattle.curve.specs.Deceleration.{levelOf}
-use Rattle.curve.specs.Intervals.{intervalOf, rankOf}
-use Rattle.curve.specs.Permitted.{permittedOf}
-use Rattle.curve.specs.Judging.{judgedOf}
+use Rattle.interval.specs.Intervals.{intervalOf, rankOf}
+use Rattle.interval.specs.Permitted.{permittedOf}
+use Rattle.interval.specs.Judging.{judgedOf}
 use Rattle.places.specs.Places.{judgedAll, permittedHere, leastPermitted, brakesFrom, anyBrakes}
-use Rattle.curve.specs.Claims.{Stricter, WeakerBraking}
-use Rattle.curve.proofs.Stricter.{interval-is-not-earlier, still-brakes}
-use Rattle.curve.proofs.Halving.{permitted-is-not-higher}
+use Rattle.curve.specs.Claims.{Stricter}
+use Rattle.interval.specs.Claims.{WeakerBraking}
+use Rattle.interval.proofs.Later.{interval-is-not-earlier, still-brakes}
+use Rattle.interval.proofs.Halving.{permitted-is-not-higher}
 use Rattle.places.proofs.Held.{permits-here, brakes-here}
 use Rattle.rules.specs.Places.{anyOf}
 use Rattle.rules.specs.Speeds.{brakingOf, judgedNow, sectionSpeed, stopSpeed, vmaxOf, permittedSpeed}

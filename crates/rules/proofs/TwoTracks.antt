@@ -8,7 +8,7 @@ use lib.Dec.{eqb}
 use borrow.Author.Tests.{eq-eqb, eqb-true}
 use Rattle.curve.specs.declared.Curve.{Curve}
 use Rattle.curve.specs.declared.Braking.{Braking}
-use Rattle.curve.specs.Judging.{notedAt}
+use Rattle.interval.specs.Judging.{notedAt}
 use Rattle.places.specs.Places.{movedHere, judgedHere, judgedAll, notedAll}
 use Rattle.curve.specs.Claims.{Stricter}
 use Rattle.places.proofs.Held.{held-moved, moved-held, moved-id}

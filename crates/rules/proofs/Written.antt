@@ -14,9 +14,10 @@ use Rattle.pressure.specs.Reference.{dropOf}
 use Rattle.curve.specs.declared.Curve.{Curve}
 use Rattle.curve.specs.declared.Judged.{Judged}
 use Rattle.curve.specs.Deceleration.{levelOf}
-use Rattle.curve.specs.Intervals.{rankOf, shownNumber}
-use Rattle.curve.specs.Changes.{never, toChange}
-use Rattle.curve.specs.Judging.{judgedOf}
+use Rattle.interval.specs.Intervals.{rankOf, shownNumber}
+use Rattle.curve.specs.Ground.{never}
+use Rattle.interval.specs.Changes.{toChange}
+use Rattle.interval.specs.Judging.{judgedOf}
 use Rattle.places.specs.Places.{judgedHere}
 use Rattle.places.proofs.Held.{held-judged, judged-held}
 use Rattle.rules.specs.Numbers.{isAccepted, isState, orderNumber, barNumber, modeNumber, bitNumber}

@@ -2,7 +2,7 @@
 use mathlib.Core.Path.{_≡_}
 use Prim.Native.Nat.{ℕ, _+_, _-_, _/_, _%_}
 use mathlib.Core.List.{List, [], _∷_}
-use Rattle.curve.specs.Changes.{never}
+use Rattle.curve.specs.Ground.{never}
 use Rattle.rules.specs.Runs.{momentOf}
 use Rattle.rules.specs.History.{changeIn}
 use Rattle.rules.specs.Tables.{Command, sent, further, start, report, curve, curveEnd}

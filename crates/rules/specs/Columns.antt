@@ -11,7 +11,7 @@ use Rattle.pressure.specs.Convert.{kPa}
 use Rattle.curve.specs.declared.Kind.{Kind}
 use Rattle.curve.specs.declared.Curve.{Curve}
 use Rattle.curve.specs.declared.Interval.{Interval}
-use Rattle.curve.specs.Intervals.{rankOf}
+use Rattle.interval.specs.Intervals.{rankOf}
 use Rattle.rules.specs.Numbers.{bitNumber, isAccepted}
 use Rattle.rules.specs.Speeds.{vmaxOf}
 use Rattle.rules.specs.Table.{stands}

@@ -5,7 +5,7 @@ use mathlib.Core.Bool.{Bool, true, _&&_}
 use mathlib.Core.List.{List, [], _∷_, _++_, foldr}
 use lib.Dec.{eqb}
 use Rattle.pressure.specs.Figures.{pressureFigures}
-use Rattle.curve.specs.Figures.{curveFigures}
+use Rattle.interval.specs.Figures.{curveFigures}
 use Rattle.rules.specs.Numbers.{codeNumber, stateNumber}
 use Rattle.rules.specs.Reports.{two}
 use Rattle.rules.specs.Commands.{freshStm}

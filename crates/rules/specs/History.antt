@@ -16,7 +16,7 @@ use Rattle.curve.specs.declared.Curve.{Curve}
 use Rattle.curve.specs.declared.Braking.{Braking}
 use Rattle.curve.specs.declared.Interval.{Interval}
 use Rattle.curve.specs.Lead.{leadsOf}
-use Rattle.curve.specs.Intervals.{intervalOf}
+use Rattle.interval.specs.Intervals.{intervalOf}
 use Rattle.rules.specs.Numbers.{isAccepted, isState}
 use Rattle.rules.specs.Operands.{twoAt, bitOf}
 use Rattle.rules.specs.Places.{freeCurve, freeSection}

@@ -6,8 +6,9 @@ use Rattle.wire.specs.Numbers.{highByte, lowByte, highPair, lowPair}
 use Rattle.pressure.specs.declared.Measured.{Measured}
 use Rattle.curve.specs.declared.Judged.{Judged}
 use Rattle.curve.specs.Boundary.{isReached}
-use Rattle.curve.specs.Intervals.{shownNumber}
-use Rattle.curve.specs.Changes.{never, toChange}
+use Rattle.interval.specs.Intervals.{shownNumber}
+use Rattle.curve.specs.Ground.{never}
+use Rattle.interval.specs.Changes.{toChange}
 use Rattle.rules.specs.Numbers.{stateNumber, orderNumber, barNumber, modeNumber, bitNumber}
 use Rattle.rules.specs.Places.{anyOf}
 use Rattle.rules.specs.Speeds.{brakingOf, judgedNow, vmaxOf, permittedSpeed}

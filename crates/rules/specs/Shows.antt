@@ -7,7 +7,7 @@ use Rattle.curve.specs.declared.Curve.{Curve}
 use Rattle.curve.specs.declared.Interval.{Interval}
 use Rattle.curve.specs.declared.Shown.{Shown}
 use Rattle.curve.specs.declared.Judged.{Judged}
-use Rattle.curve.specs.Intervals.{rankOf, shownOf}
+use Rattle.interval.specs.Intervals.{rankOf, shownOf}
 use Rattle.places.specs.Places.{noneJudged}
 use Rattle.rules.specs.Places.{freeCurve}
 use Rattle.rules.specs.declared.Bar.{Bar}

@@ -17,7 +17,7 @@ use Rattle.curve.specs.declared.Direction.{Direction}
 use Rattle.curve.specs.declared.Curve.{Curve}
 use Rattle.curve.specs.declared.Interval.{Interval}
 use Rattle.curve.specs.declared.Shown.{Shown}
-use Rattle.curve.specs.Intervals.{shownNumber}
+use Rattle.interval.specs.Intervals.{shownNumber}
 use Rattle.rules.specs.Numbers.{answerNumber, codeNumber, codeOf, stateNumber, stateOf, orderNumber, barNumber}
 use Rattle.rules.specs.Numbers.{modeNumber, bitNumber}
 use Rattle.rules.specs.Operands.{readingOf}

@@ -7,7 +7,7 @@ use lib.ListN.{length, take, drop}
 use Rattle.wire.specs.Numbers.{byteAt}
 use Rattle.wire.specs.Form.{operandsOf}
 use Rattle.curve.specs.declared.Curve.{Curve}
-use Rattle.curve.specs.Intervals.{rankOf}
+use Rattle.interval.specs.Intervals.{rankOf}
 use Rattle.curve.specs.Claims.{Stricter}
 use Rattle.rules.specs.Numbers.{answerNumber, isRefused}
 use Rattle.rules.specs.Operands.{codeByte, numberOf, twoAt, bitOf}

@@ -9,9 +9,10 @@ use Rattle.curve.specs.declared.Curve.{Curve}
 use Rattle.curve.specs.declared.Interval.{Interval}
 use Rattle.curve.specs.declared.Shown.{Shown}
 use Rattle.curve.specs.Boundary.{isReached}
-use Rattle.curve.specs.Intervals.{rankOf, shownOf, shownNumber}
-use Rattle.curve.specs.Permitted.{permittedOf}
-use Rattle.curve.specs.Changes.{never, toChange}
+use Rattle.interval.specs.Intervals.{rankOf, shownOf, shownNumber}
+use Rattle.interval.specs.Permitted.{permittedOf}
+use Rattle.curve.specs.Ground.{never}
+use Rattle.interval.specs.Changes.{toChange}
 use Rattle.rules.specs.Numbers.{isAccepted, barNumber, modeNumber, bitNumber}
 use Rattle.rules.specs.Operands.{bitOf}
 use Rattle.rules.specs.Table.{stands}

@@ -42,8 +42,8 @@ fn goes_before(x: Candidate, y: Candidate) -> bool
     let ix = jx.interval;
     let iy = jy.interval;
     is_lower(
-        curve::rank_of(iy) as u16,
-        curve::rank_of(ix) as u16,
+        interval::rank_of(iy) as u16,
+        interval::rank_of(ix) as u16,
         is_lower(jx.permitted, jy.permitted, cx.id < cy.id),
     )
 }
@@ -81,7 +81,7 @@ pub fn shown_as(shown: Candidate) -> Shown
     let curve = shown.curve;
     let judged = shown.judged;
     let interval = judged.interval;
-    curve::shown_of(curve.past, interval)
+    interval::shown_of(curve.past, interval)
 }
 
 fn computed_bar(interval: Interval) -> Bar
@@ -151,7 +151,7 @@ pub fn change_of(train: Train, kept: Kept, shown: Candidate) -> u32
     if judged.held {
         let curve = shown.curve;
         let braking = braking_of(train, kept.halka);
-        return curve::to_change(curve, braking, kept.speed);
+        return interval::to_change(curve, braking, kept.speed);
     }
     curve::NEVER
 }

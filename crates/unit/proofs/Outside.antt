@@ -3,7 +3,7 @@ use Prim.Native.Nat.{ℕ}
 use mathlib.Core.Path.{_≡_, refl, _∙_}
 use mathlib.Core.Bool.{true, false, cond}
 use mathlib.Core.List.{[], _∷_}
-use Rattle.curve.specs.Changes.{never}
+use Rattle.curve.specs.Ground.{never}
 use Rattle.rules.specs.declared.State.{State}
 use Rattle.rules.specs.declared.Stm.{Stm}
 use Rattle.rules.specs.Numbers.{stateNumber, isState}

@@ -13,9 +13,9 @@ use Rattle.curve.specs.declared.Braking.{Braking}
 use Rattle.curve.specs.declared.Interval.{Interval}
 use Rattle.curve.specs.declared.Judged.{Judged}
 use Rattle.curve.specs.Boundary.{targetOf, isAbove, lineFor, isReached, isReachedF, isReachedAtKmh}
-use Rattle.curve.specs.Intervals.{intervalOf}
-use Rattle.curve.specs.Permitted.{permittedOf}
-use Rattle.curve.specs.Judging.{isFast, brakesAt, judgedOf, notedAt}
+use Rattle.interval.specs.Intervals.{intervalOf}
+use Rattle.interval.specs.Permitted.{permittedOf}
+use Rattle.interval.specs.Judging.{isFast, brakesAt, judgedOf, notedAt}
 use Rattle.places.specs.Places.{noneJudged, judgedHere, judgedAll, notedAll}
 use Rattle.rules.specs.Places.{withCurves}
 use Rattle.rules.specs.Speeds.{judgedNow, vmaxOf}

@@ -10,7 +10,7 @@ ghost use Rattle.rules.specs.Speeds.{judgedNow, vmaxOf, permittedSpeed};
 ghost use Rattle.rules.specs.Table.{orderOf};
 ghost use Rattle.rules.specs.Odometer.{isInsufficient, seenIn};
 ghost use Rattle.rules.specs.Commands.{remembered};
-ghost use Rattle.curve.specs.Changes.{never};
+ghost use Rattle.curve.specs.Ground.{never};
 ghost use Rattle.rules.specs.Reports.{causesNumber, messagesOf, offeredOf, isOver, shownFields, changeOf, fields, reportInDA, reportOf};
 use brakes::causes::order_of;
 use brakes::causes::would_drop;
@@ -113,7 +113,7 @@ fn shown_fields(over: bool, insufficient: bool, shown: Candidate) -> Shown
         let interval = shown_as(shown);
         return Shown {
             id: curve.id,
-            interval: curve::shown_number(interval),
+            interval: interval::shown_number(interval),
             bar: bar_number(bar_of(interval)),
             mode: mode_number(mode_of(over, insufficient, interval)),
         };

@@ -6,7 +6,7 @@ use native.Mathlib.Omega.{arith}
 use lib.ListN.{length, take, drop}
 use borrow.Author.Needs.{needs}
 use Rattle.laws.proofs.Lists.{copy-past, zip-step, length-zip}
-use Rattle.curve.specs.Judging.{notedAt}
+use Rattle.interval.specs.Judging.{notedAt}
 use Rattle.places.specs.Places.{places, notedAll}
 use Rattle.places.proofs.Loops.{noCurve, zeroJudged}
 use Rattle.places.proofs.note_all.Statement.{statement}

@@ -8,7 +8,7 @@ use borrow.Author.Needs.{needs}
 use borrow.Author.Tests.{ltb-true}
 use Rattle.curve.specs.Boundary.{targetOf, isAbove}
 use Rattle.curve.proofs.Stricter.{both}
-use Rattle.curve.proofs.Changes.{f-reach-above, f-reach-below}
+use Rattle.curve.proofs.Reaching.{f-reach-above, f-reach-below}
 use Rattle.curve.proofs.boundary.f_reach_of.Statement.{statement}
 use Rattle.curve.proofs.boundary.f_reach_of.Tie as tie
 

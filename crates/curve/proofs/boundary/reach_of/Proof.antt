@@ -4,7 +4,7 @@ use native.Mathlib.Omega.{arith}
 use borrow.Author.Needs.{needs}
 use Rattle.curve.proofs.Widths.{lead-within}
 use Rattle.curve.proofs.Stricter.{above-target}
-use Rattle.curve.proofs.Changes.{reach-above, reach-below}
+use Rattle.curve.proofs.Reaching.{reach-above, reach-below}
 use Rattle.curve.proofs.boundary.reach_of.Statement.{statement}
 use Rattle.curve.proofs.boundary.reach_of.Tie as tie
 

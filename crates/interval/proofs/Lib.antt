@@ -1,0 +1,5 @@
+pub mod Changes
+pub mod Divided
+pub mod Figures
+pub mod Halving
+pub mod Later
