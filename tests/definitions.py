@@ -29,7 +29,7 @@ use mathlib.Core.Bool.{{true, cond}}
 use lib.ListN.{{take, drop, replicate}}
 use Rattle.wire.specs.Form.{{reportLength}}
 use Rattle.wire.specs.Bytes.{{sameBytes}}
-use Rattle.curve.specs.Changes.{{never}}
+use Rattle.curve.specs.Ground.{{never}}
 use Rattle.rules.specs.Numbers.{{answerNumber, isAnswered}}
 use Rattle.rules.specs.Reports.{{four}}
 use Rattle.rules.specs.Commands.{{freshStm}}
