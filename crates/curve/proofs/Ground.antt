@@ -11,9 +11,7 @@ use borrow.Author.Tests.{le-leb, leb-true}
 use Rattle.laws.proofs.Lists.{not-true-false}
 use Rattle.curve.specs.Deceleration.{decelerationOf}
 use Rattle.curve.specs.Boundary.{targetOf, line, lineFor}
-use Rattle.curve.specs.Ground.{largestFailing}
-use Rattle.curve.specs.Ground.{movedBy}
-use Rattle.curve.specs.Ground.{never, mostBefore}
+use Rattle.curve.specs.Ground.{largestFailing, movedBy, never, mostBefore}
 use Rattle.curve.specs.Claims.{Stricter, StaysFor}
 use Rattle.curve.specs.declared.Curve.{Curve}
 use Rattle.curve.proofs.Line.{leb-same, line-is}

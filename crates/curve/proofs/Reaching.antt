@@ -5,8 +5,7 @@ use mathlib.Core.Bool.{Bool, true, false, _&&_}
 use native.Mathlib.Nat.{le-refl}
 use lib.Dec.{ltb}
 use Rattle.curve.specs.Boundary.{targetOf, isAbove, lineFor, isReached, isReachedF}
-use Rattle.curve.specs.Ground.{movedBy}
-use Rattle.curve.specs.Ground.{never, mostBefore, reachOf, reachOfF}
+use Rattle.curve.specs.Ground.{movedBy, never, mostBefore, reachOf, reachOfF}
 use Rattle.curve.specs.Claims.{ReachedAsBefore, GroundLeftIsTold, GroundLeftToFIsTold}
 use Rattle.curve.specs.declared.Curve.{Curve}
 use Rattle.curve.specs.declared.Reach.{Reach}

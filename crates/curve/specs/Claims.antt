@@ -5,8 +5,7 @@ use mathlib.Core.Bool.{true, false}
 use mathlib.Core.Logic.{_⊎_}
 use Rattle.curve.specs.Deceleration.{decelerationOf}
 use Rattle.curve.specs.Boundary.{isReached, isReachedF, isReachedAtKmh}
-use Rattle.curve.specs.Ground.{movedBy}
-use Rattle.curve.specs.Ground.{never, reachOf, reachOfF}
+use Rattle.curve.specs.Ground.{movedBy, never, reachOf, reachOfF}
 use Rattle.curve.specs.declared.Curve.{Curve}
 
 -- ---- one rule

@@ -10,8 +10,7 @@ use lib.Dec.{eqb, ltb, lit<}
 use borrow.Author.Tests.{eq-eqb, ne-eqb, lt-ltb, le-ltb, ltb-true, ltb-false}
 use Rattle.curve.specs.Boundary.{isReached, isReachedF}
 use Rattle.interval.specs.Intervals.{lastReached, intervalOf, rankOf}
-use Rattle.curve.specs.Ground.{movedBy}
-use Rattle.curve.specs.Ground.{never, mostBefore, reachOf, reachOfF}
+use Rattle.curve.specs.Ground.{movedBy, never, mostBefore, reachOf, reachOfF}
 use Rattle.interval.specs.Changes.{isChanged, toChange, leadAfter}
 use Rattle.curve.specs.Claims.{StaysFor}
 use Rattle.interval.specs.Claims.{WeakerBraking, ChangeIsTold, NeverMeansNever}

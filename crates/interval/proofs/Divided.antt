@@ -7,8 +7,7 @@ use borrow.Author.Tests.{ltb-true}
 use Rattle.curve.specs.Deceleration.{decelerationOf}
 use Rattle.curve.specs.Boundary.{targetOf, isAbove, lineFor, isReached, isReachedF}
 use Rattle.interval.specs.Intervals.{intervalOf}
-use Rattle.curve.specs.Ground.{movedBy}
-use Rattle.curve.specs.Ground.{never, mostBefore, reachOf, reachOfF}
+use Rattle.curve.specs.Ground.{movedBy, never, mostBefore, reachOf, reachOfF}
 use Rattle.interval.specs.Changes.{toChange, leadAfter}
 use Rattle.curve.specs.declared.Curve.{Curve}
 use Rattle.curve.specs.declared.Braking.{Braking}

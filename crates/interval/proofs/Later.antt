@@ -9,8 +9,7 @@ use borrow.Author.Tests.{ltb-true, lt-ltb, le-ltb, leb-true, le-leb, lt-leb}
 use Rattle.curve.specs.Boundary.{isAbove, isReached, isReachedF}
 use Rattle.interval.specs.Intervals.{intervalOf, rankOf}
 use Rattle.interval.specs.Judging.{isFastFor, isFast, brakesAt, judgedOf}
-use Rattle.interval.specs.Claims.{IntervalIsNotEarlier, StillBrakes}
-use Rattle.interval.specs.Claims.{NoBrakingAtFloor}
+use Rattle.interval.specs.Claims.{IntervalIsNotEarlier, StillBrakes, NoBrakingAtFloor}
 use Rattle.curve.specs.declared.Kind.{Kind}
 use Rattle.curve.specs.declared.Kind.the-variants.{SpeedTarget, ExpectStop}
 use Rattle.curve.specs.declared.Curve.{Curve}

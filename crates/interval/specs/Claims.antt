@@ -3,9 +3,8 @@ use mathlib.Core.Path.{_≡_}
 use Prim.Native.Nat.{ℕ, _*_, _≤_, _<_, min}
 use mathlib.Core.Bool.{true, false}
 use Rattle.curve.specs.Boundary.{isReachedAtKmh}
-use Rattle.curve.specs.Ground.{movedBy}
+use Rattle.curve.specs.Ground.{movedBy, never}
 use Rattle.interval.specs.Judging.{brakesAt, judgedOf}
-use Rattle.curve.specs.Ground.{never}
 use Rattle.interval.specs.Changes.{toChange}
 use Rattle.curve.specs.Claims.{Stricter, StaysFor}
 use Rattle.interval.specs.Intervals.{intervalOf, rankOf}
@@ -32,7 +31,7 @@ pub record WeakerBraking (braking braking′ : Braking) : Type 0 where
   pub leads : LongerLeads (braking .leads) (braking′ .leads)
   pub margin : braking′ .margin ≤ braking .margin
 
--- so a computed interval is not earlier,
+-- a curve no less strict, a train that brakes no better and a speed no lower: a computed interval is not earlier,
 abbrev pub IntervalIsNotEarlier : Type 0
 IntervalIsNotEarlier =
     (curve curve′ : Curve) (braking braking′ : Braking) (v v′ : ℕ)
