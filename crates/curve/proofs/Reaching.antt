@@ -1,10 +1,9 @@
 -- What the boundary rule tells: reached, and the ground left. Assumes nothing.
-use Prim.Native.Nat.{ℕ, _-_, _*_}
+use Prim.Native.Nat.{ℕ}
 use mathlib.Core.Path.{_≡_, refl, sym, _∙_, ap, ap₂}
 use mathlib.Core.Bool.{Bool, true, false, _&&_}
 use native.Mathlib.Nat.{le-refl}
-use lib.Dec.{ltb}
-use Rattle.curve.specs.Boundary.{targetOf, isAbove, lineFor, isReached, isReachedF}
+use Rattle.curve.specs.Boundary.{isReached, isReachedF}
 use Rattle.curve.specs.Ground.{movedBy, never, mostBefore, reachOf, reachOfF}
 use Rattle.curve.specs.Claims.{ReachedAsBefore, GroundLeftIsTold, GroundLeftToFIsTold}
 use Rattle.curve.specs.declared.Curve.{Curve}
@@ -46,40 +45,16 @@ ground-left-to-f-is-told curve level margin v = (
   left-told (λ c. isReachedF c level margin v) curve (f-reached-on curve level v margin),
 )
 
--- what the rule tells of a speed above the floor is what the line tells, and of one at or under it, that it is never reached
-module _ (curve : Curve) (level v T : ℕ) {told : Reach} where
-  pub reach-above : isAbove (9 * v) curve ≡ true → told .reached ≡ lineFor curve level 50 (9 * v) 10 (v * T)
-      → told .left ≡ mostBefore (λ n. lineFor (movedBy curve n) level 50 (9 * v) 10 (v * T)) (curve .distance)
-      → told ≡ reachOf curve level v T
-  unfolding reachOf isReached isAbove
-  reach-above e reached left =
-      ap₂ reach reached left
-      ∙ ap (λ t. reach (t && lineFor curve level 50 (9 * v) 10 (v * T))
-      (mostBefore (λ n. t && lineFor (movedBy curve n) level 50 (9 * v) 10 (v * T)) (curve .distance))) (sym e)
+-- a line that is asked only where a test passes
+abbrev pub asked : (Curve → Bool) → Curve → Bool → Reach
+asked line curve test = reach (test && line curve) (mostBefore (λ n. test && line (movedBy curve n)) (curve .distance))
 
-  pub reach-below : isAbove (9 * v) curve ≡ false → told .reached ≡ false → told .left ≡ never → told ≡ reachOf curve level v T
-  unfolding reachOf isReached isAbove mostBefore
-  reach-below e reached left =
-      ap₂ reach reached left
-      ∙ ap (λ t. reach (t && lineFor curve level 50 (9 * v) 10 (v * T))
-      (mostBefore (λ n. t && lineFor (movedBy curve n) level 50 (9 * v) 10 (v * T)) (curve .distance))) (sym e)
+-- what the line tells is told where it does, and elsewhere that it is never reached
+module _ (line : Curve → Bool) (curve : Curve) {test : Bool} {told : Reach} where
+  pub line-asked : test ≡ true → told .reached ≡ line curve
+      → told .left ≡ mostBefore (λ n. line (movedBy curve n)) (curve .distance) → told ≡ asked line curve test
+  line-asked e reached left = ap₂ reach reached left ∙ ap (asked line curve) (sym e)
 
-module _ (curve : Curve) (level margin v u : ℕ) (less : u ≡ 9 * v - 250 * margin) {told : Reach} where
-  pub f-reach-above : (isAbove (9 * v) curve && ltb (targetOf curve) u) ≡ true → told .reached ≡ lineFor curve level 50 u 10 0
-      → told .left ≡ mostBefore (λ n. lineFor (movedBy curve n) level 50 u 10 0) (curve .distance)
-      → told ≡ reachOfF curve level margin v
-  unfolding reachOfF isReachedF isAbove targetOf
-  f-reach-above e reached left =
-      rw (sym less)
-      (ap₂ reach reached left
-      ∙ ap (λ t. reach (t && lineFor curve level 50 u 10 0)
-      (mostBefore (λ n. t && lineFor (movedBy curve n) level 50 u 10 0) (curve .distance))) (sym e))
-
-  pub f-reach-below : (isAbove (9 * v) curve && ltb (targetOf curve) u) ≡ false → told .reached ≡ false → told .left ≡ never
-      → told ≡ reachOfF curve level margin v
-  unfolding reachOfF isReachedF isAbove targetOf mostBefore
-  f-reach-below e reached left =
-      rw (sym less)
-      (ap₂ reach reached left
-      ∙ ap (λ t. reach (t && lineFor curve level 50 u 10 0)
-      (mostBefore (λ n. t && lineFor (movedBy curve n) level 50 u 10 0) (curve .distance))) (sym e))
+  pub line-not-asked : test ≡ false → told .reached ≡ false → told .left ≡ never → told ≡ asked line curve test
+  unfolding mostBefore
+  line-not-asked e reached left = ap₂ reach reached left ∙ ap (asked line curve) (sym e)

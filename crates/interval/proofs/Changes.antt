@@ -11,7 +11,7 @@ use borrow.Author.Tests.{eq-eqb, ne-eqb, lt-ltb, le-ltb, ltb-true, ltb-false}
 use Rattle.curve.specs.Boundary.{isReached, isReachedF}
 use Rattle.interval.specs.Intervals.{lastReached, intervalOf, rankOf}
 use Rattle.curve.specs.Ground.{movedBy, never, mostBefore, reachOf, reachOfF}
-use Rattle.interval.specs.Changes.{isChanged, toChange, leadAfter}
+use Rattle.interval.specs.Changes.{isChanged, toChange}
 use Rattle.curve.specs.Claims.{StaysFor}
 use Rattle.interval.specs.Claims.{WeakerBraking, ChangeIsTold, NeverMeansNever}
 use Rattle.curve.specs.declared.Curve.{Curve}
@@ -213,6 +213,16 @@ module _ (bf b c d e f : Bool) where
   later-reached E h = after-f 5 (lit< tt) (ap (λ t. ltb 5 (rankOf (cond t E fromD))) h)
   later-reached F h = ap (λ t. ltb 6 (rankOf (cond t F fromE))) h
 
+-- the longest lead of the boundaries after an interval, E's 0 among them
+abbrev pub leadAfter : Interval → Leads → ℕ
+leadAfter A leads = max (leads .d) (max (leads .c) (max (leads .b) (leads .bf)))
+leadAfter Bf leads = max (leads .d) (max (leads .c) (leads .b))
+leadAfter B leads = max (leads .d) (leads .c)
+leadAfter C leads = leads .d
+leadAfter D leads = 0
+leadAfter E leads = 0
+leadAfter F leads = 0
+
 -- a test that another one follows from adds nothing to it
 absorbed : (s t : Bool) → (s ≡ true → t ≡ true) → (s || t) ≡ t
 absorbed true t h = sym (h refl)
@@ -330,13 +340,3 @@ module _ (curve : Curve) (braking : Braking) (v : ℕ) where
   unfolding toChange
   change-left i is =
       most-same (isChanged curve braking v) (λ n. decides n i) (λ n. changed-by n i is) (curve .distance) ∙ decided i
-
-  -- but for E and F the boundary with the longest lead decides
-  pub left-by-lead : (i : Interval) → (rankOf i ≡ 5 → ⊥) → (rankOf i ≡ 6 → ⊥) → leftAfter i ≡ reachOf curve level v (leadAfter i leads) .left
-  left-by-lead A p q = refl
-  left-by-lead Bf p q = refl
-  left-by-lead B p q = refl
-  left-by-lead C p q = refl
-  left-by-lead D p q = refl
-  left-by-lead E p q = absurd (p refl)
-  left-by-lead F p q = absurd (q refl)

@@ -8,14 +8,14 @@ use Rattle.curve.specs.Deceleration.{decelerationOf}
 use Rattle.curve.specs.Boundary.{targetOf, isAbove, lineFor, isReached, isReachedF}
 use Rattle.interval.specs.Intervals.{intervalOf}
 use Rattle.curve.specs.Ground.{movedBy, never, mostBefore, reachOf, reachOfF}
-use Rattle.interval.specs.Changes.{toChange, leadAfter}
+use Rattle.interval.specs.Changes.{toChange}
 use Rattle.curve.specs.declared.Curve.{Curve}
 use Rattle.curve.specs.declared.Braking.{Braking}
 use Rattle.curve.specs.declared.Interval.{Interval}
 use Rattle.curve.specs.declared.Interval.the-variants.{A, Bf, B, C, D, E, F}
 use Rattle.curve.proofs.Stricter.{both, above-target}
 use Rattle.curve.proofs.Ground.{holds-on, left-none, ground-left, left-is}
-use Rattle.interval.proofs.Changes.{change-left}
+use Rattle.interval.proofs.Changes.{leadAfter, change-left}
 
 -- ---- the line
 
@@ -37,34 +37,33 @@ module _ (curve : Curve) (level u lead : ℕ) where
       by true e = rw e (left-none (λ x. lineFor x level 50 u 10 lead) curve (holds-on curve level u lead above) e)
       by false e = rw e (left-is curve level u lead above e ∙ ground-left curve level u lead above e)
 
+  -- asked only where a test passes
+  asked-left : (test : Bool) → (test ≡ true → targetOf curve < u)
+      → mostBefore (λ n. test && lineFor (movedBy curve n) level 50 u 10 lead) (curve .distance) ≡ cond test lineLeft never
+  unfolding mostBefore
+  asked-left true h = line-left (h refl)
+  asked-left false h = refl
+
 -- ---- a boundary
 
 abbrev pub leadLeft : Curve → ℕ → ℕ → ℕ → ℕ
 leadLeft curve level v T = cond (isAbove (9 * v) curve) (lineLeft curve level (9 * v) (v * T)) never
 
 lead-left : (curve : Curve) (level v T : ℕ) → reachOf curve level v T .left ≡ leadLeft curve level v T
-unfolding reachOf isReached isAbove mostBefore
-lead-left curve level v T = by (isAbove (9 * v) curve) refl
-  where
-    by : (t : Bool) → isAbove (9 * v) curve ≡ t → reachOf curve level v T .left ≡ leadLeft curve level v T
-    by true e = rw e (line-left curve level (9 * v) (v * T) (above-target curve (9 * v) e))
-    by false e = rw e
+unfolding reachOf isReached isAbove
+lead-left curve level v T = asked-left curve level (9 * v) (v * T) (isAbove (9 * v) curve) (above-target curve (9 * v))
 
 abbrev pub fLeft : Curve → ℕ → ℕ → ℕ → ℕ
 fLeft curve level margin v =
     cond (isAbove (9 * v) curve && ltb (targetOf curve) (9 * v - 250 * margin)) (lineLeft curve level (9 * v - 250 * margin) 0) never
 
 f-left : (curve : Curve) (level margin v : ℕ) → reachOfF curve level margin v .left ≡ fLeft curve level margin v
-unfolding reachOfF isReachedF isAbove targetOf mostBefore
-f-left curve level margin v = by (isAbove (9 * v) curve && ltb (targetOf curve) (9 * v - 250 * margin)) refl
-  where
-    by : (t : Bool) → (isAbove (9 * v) curve && ltb (targetOf curve) (9 * v - 250 * margin)) ≡ t
-        → reachOfF curve level margin v .left ≡ fLeft curve level margin v
-    by true e =
-        rw e
-        (line-left curve level (9 * v - 250 * margin) 0
-        (ltb-true (targetOf curve) (9 * v - 250 * margin) (both (isAbove (9 * v) curve) (ltb (targetOf curve) (9 * v - 250 * margin)) e .1)))
-    by false e = rw e
+unfolding reachOfF isReachedF isAbove targetOf
+f-left curve level margin v =
+    let u = 9 * v - 250 * margin in
+    let over = ltb (targetOf curve) u in
+    asked-left curve level u 0 (isAbove (9 * v) curve && over)
+    (λ e. ltb-true (targetOf curve) u (both (isAbove (9 * v) curve) over e .1))
 
 -- ---- a curve in an interval
 

@@ -1,10 +1,13 @@
 -- `curve::boundary::reach_of` meets its contract.
+use Prim.Native.Nat.{_*_}
 use mathlib.Core.Path.{sym, _∙_}
 use native.Mathlib.Omega.{arith}
 use borrow.Author.Needs.{needs}
+use Rattle.curve.specs.Boundary.{isAbove, lineFor, isReached}
+use Rattle.curve.specs.Ground.{reachOf}
 use Rattle.curve.proofs.Widths.{lead-within}
 use Rattle.curve.proofs.Stricter.{above-target}
-use Rattle.curve.proofs.Reaching.{reach-above, reach-below}
+use Rattle.curve.proofs.Reaching.{line-asked, line-not-asked}
 use Rattle.curve.proofs.boundary.reach_of.Statement.{statement}
 use Rattle.curve.proofs.boundary.reach_of.Tie as tie
 
@@ -26,19 +29,22 @@ line-reach-requires c κs =
     )
 
 returns : tie.Need-returns
+unfolding reachOf isReached isAbove
 returns c =
     let a = c .before .before .before .args in
     let above = sym (c .before .before .is-above .ensures) ∙ c .before .if1 .taken in
-    reach-above (a .curve) (a .level) (a .v) (a .lead) above (c .line-reach .ensures .0) (c .line-reach .ensures .1)
+    line-asked (λ x. lineFor x (a .level) 50 (9 * a .v) 10 (a .v * a .lead)) (a .curve) above (c .line-reach .ensures .0) (c .line-reach .ensures .1)
 
 never-reached-requires : tie.Need-never-reached-requires
 never-reached-requires c κs = tt
 
 returns-2 : tie.Need-returns-2
+unfolding reachOf isReached isAbove
 returns-2 c =
     let a = c .before .before .before .args in
     let below = sym (c .before .before .is-above .ensures) ∙ c .before .if1 .left in
-    reach-below (a .curve) (a .level) (a .v) (a .lead) below (c .never-reached .ensures .0) (c .never-reached .ensures .1)
+    line-not-asked (λ x. lineFor x (a .level) 50 (9 * a .v) 10 (a .v * a .lead)) (a .curve) below (c .never-reached .ensures .0)
+    (c .never-reached .ensures .1)
 
 pub reach-of-spec : {M : Type 1} → statement M
 reach-of-spec =
