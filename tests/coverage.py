@@ -146,6 +146,19 @@ def claims():
         "past the permitted boundary in B, no change", "an interval passed over", "a figure with HALKA", "a figure downhill",
         "a figure of an Expect Stop", "of two curves the shown one's", "another command writes it anew",
         "43,324 cm: 7,499", "43,325 cm: 0"]
+    yield "F-2", [
+        "an error at 2,222 cm/s", "an error at 2,223 cm/s", "an error at rest",
+        "low: fresh LOSS at the 19th at rest, bit 9 stands", "low: fresh LOSS at the 19th above 80 km/h, bit 9 stands",
+        "low: the 19th offers nothing", "low: the 20th offers above 80 km/h", "low: LOSS held at the 20th, bit 9 stands",
+        "low: fresh LOSS at the 20th above 80 km/h drops it", "low: fresh LOSS later above 80 km/h drops it",
+        "low: fresh LOSS later at rest drops it",
+        "high: fresh LOSS above 80 km/h at the first, bit 9 stands", "high: fresh LOSS above 80 km/h after the 20th, bit 9 stands",
+        "high: up to 80 km/h it is offered before the 20th", "high: fresh LOSS up to 80 km/h drops it before the 20th",
+        "low, then high", "high, then low", "low, then low before the 20th, dropped at the 20th of the second",
+        "an offer taken back by an error at low speed", "an offer taken back by an error at high speed",
+        "a repeat in between", "a refused report in between", "an error again, and refused",
+        "bit 0 dropped while bit 9 is held", "bit 11 not dropped while bit 9 is held", "bits 9 and 11 dropped together at the 20th",
+        "FA at a fresh LOSS that would drop bit 9", "CS while bit 9 is held", "a start while bit 9 is held"]
     yield "Figures", [
         "VMAX 100: 3,055 no order", "VMAX 100: 3,056 bit 0", "VMAX 100: 2,916 offered", "VMAX 100: 2,917 not offered",
         "P_FULL 380: 956 kPa gives 500 and the message", "full 700: 490 measured frees bit 6", "full 700: 489 doesn't"]
@@ -179,6 +192,7 @@ class Coverage:
         self.refused_numbers = set()
         self.refused_since = False
         self.figure_before = None
+        self.error = None
         at_byte = 0
         for self.line, text in enumerate(lines, 1):
             length = LENGTHS.get(stream[at_byte], 0)
@@ -208,6 +222,8 @@ class Coverage:
         elif answer == 100:
             self.repeated(code, number, operands, report)
         else:
+            self.see("a refused report in between", code == 0x10 and self.is_held())
+            self.see("an error again, and refused", code == 0x32 and self.is_held())
             self.expect(not report, "a refusal has no report")
             self.refused_numbers.add(number)
             self.refused_since = True
@@ -296,6 +312,7 @@ class Coverage:
 
     def repeated(self, code, number, operands, report):
         self.see(f"{code:02X} again")
+        self.see("a repeat in between", code == 0x10 and self.is_held())
         self.expect(report == self.report, "the report of a repeat is the last one")
         self.see("again in FA", report[0] == FA)
         self.see("again after a refusal", self.refused_since)
@@ -321,6 +338,10 @@ class Coverage:
         self.see("a refused number accepted", code != 0x01 and number in self.refused_numbers)
         self.refused_numbers.clear()
         self.see("FFFFFFFF accepted", number == LAST and code != 0x01)
+        self.see("CS while bit 9 is held", code == 0x02 and operands[0] == CS and self.is_held())
+        self.see("a start while bit 9 is held", code == 0x01 and self.is_held())
+        if code == 0x01 or code == 0x02 and operands[0] == CS:
+            self.error = None
         if code == 0x01:
             self.afresh()
             self.see("start over curves, sections and causes",
@@ -391,6 +412,7 @@ class Coverage:
             self.see("a proceed signal ends the 40", before.forty and unit.vmax > before.vmax)
         elif code == 0x32:
             self.see("32 adds 9", not before.causes >> 9 & 1 and unit.causes >> 9 & 1)
+            self.error_comes(before, report)
         if unit.state == DA and before.state == DA and self.report[0] == DA:
             old = self.report
             self.see("another command changes the interval shown", old[8] == report[8] != 255 and old[9] != report[9])
@@ -424,7 +446,68 @@ class Coverage:
             self.pressed(before, v, moved, buttons, report)
             self.rolled(before, v, moved, buttons, report)
         self.checks(before, buttons)
+        self.held(before, v, buttons, report)
         self.figures(before, v, measured, report)
+
+    # -- F-2: an error is kept here with its speed, and with the number of reports in DA since
+
+    def is_held(self):
+        """Bit 9 stands after an error at low speed, and under 20 reports have come."""
+        return self.unit.started and self.unit.causes >> 9 & 1 and self.error and self.error[0] <= 2222 and self.error[1] < 20
+
+    def error_comes(self, before, report):
+        v = before.v
+        self.see("an error at 2,222 cm/s", v == 2222)
+        self.see("an error at 2,223 cm/s", v == 2223)
+        self.see("an error at rest", v == 0)
+        self.error_before = None
+        if before.causes >> 9 & 1:
+            low, count = self.error[0] <= 2222, self.error[1]
+            self.see("low, then high", low and v > 2222)
+            self.see("high, then low", not low and v <= 2222)
+            self.error_before = low and v <= 2222 and count < 20
+            if before.causes == 1 << 9 and self.report[13] == 1:
+                self.see("an offer taken back by an error at low speed", v <= 2222 and report[13] == 0)
+                self.see("an offer taken back by an error at high speed", v > 2222 and report[13] == 0)
+        self.error = (v, 0)
+
+    def held(self, before, v, buttons, report):
+        """Bit 9 at a report in DA; `report` is what is written, in DA or in FA."""
+        if self.error is None:
+            return
+        self.error = (self.error[0], self.error[1] + 1)
+        at_error, count = self.error
+        low, loss, above = at_error <= 2222, buttons & LOSS, v > 2222
+        fresh = loss and not before.buttons & LOSS
+        free = count >= 20 if low else not above
+        if not before.causes >> 9 & 1:
+            return
+        if report[0] == FA:
+            self.see("FA at a fresh LOSS that would drop bit 9", fresh and free)
+            return
+        stands = report[2] >> 1 & 1
+        self.expect(stands == (not (fresh and free)), "bit 9 goes by its hold")
+        alone = report[2:4] == b"\x02\x00"
+        if low:
+            self.see("low: fresh LOSS at the 19th at rest, bit 9 stands", count == 19 and fresh and v == 0)
+            self.see("low: fresh LOSS at the 19th above 80 km/h, bit 9 stands", count == 19 and fresh and above)
+            self.see("low: the 19th offers nothing", count == 19 and alone and report[13] == 0)
+            self.see("low: the 20th offers above 80 km/h", count == 20 and alone and above and report[13] == 1)
+            self.see("low: LOSS held at the 20th, bit 9 stands", count == 20 and loss and not fresh)
+            self.see("low: fresh LOSS at the 20th above 80 km/h drops it", count == 20 and fresh and above)
+            self.see("low: fresh LOSS later above 80 km/h drops it", count > 20 and fresh and above)
+            self.see("low: fresh LOSS later at rest drops it", count > 20 and fresh and v == 0)
+            self.see("low, then low before the 20th, dropped at the 20th of the second",
+                     self.error_before and count >= 20 and fresh)
+            if count < 20:
+                self.see("bit 0 dropped while bit 9 is held", before.causes & 1 and not report[3] & 1)
+                self.see("bit 11 not dropped while bit 9 is held", fresh and before.causes >> 11 & 1 and report[2] & 8)
+            self.see("bits 9 and 11 dropped together at the 20th", count == 20 and before.causes >> 11 & 1 and not report[2] & 10)
+        else:
+            self.see("high: fresh LOSS above 80 km/h at the first, bit 9 stands", count == 1 and fresh and above)
+            self.see("high: fresh LOSS above 80 km/h after the 20th, bit 9 stands", count > 20 and fresh and above)
+            self.see("high: up to 80 km/h it is offered before the 20th", count < 20 and alone and not above and report[13] == 1)
+            self.see("high: fresh LOSS up to 80 km/h drops it before the 20th", count < 20 and fresh and not above)
 
     def figures(self, before, v, measured, report):
         """01's figures on orders and releases."""

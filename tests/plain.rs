@@ -504,6 +504,8 @@ struct Unit {
     halted_since_stop: bool,
     halted_since_landslide: bool,
     braked_since: bool,
+    /// Reports still to come before bit 9 may be released, where its last error came at 80 km/h or below (F-2).
+    waiting: Option<i64>,
     /// Ground rolled in neutral since a halt, while that is counted.
     rolled: Option<i64>,
     /// Reports since the order began, until the check is satisfied or has judged.
@@ -528,6 +530,7 @@ impl Unit {
             halted_since_stop: false,
             halted_since_landslide: false,
             braked_since: false,
+            waiting: None,
             rolled: None,
             service_check: None,
             emergency_check: None,
@@ -639,6 +642,7 @@ impl Unit {
             Command::BaliseError => {
                 let before = self.causes;
                 self.causes |= BALISE;
+                self.waiting = if above(self.speed, 80) { None } else { Some(20) };
                 self.begin_checks(before);
             }
         }
@@ -654,6 +658,7 @@ impl Unit {
             self.halted_since_stop = false;
             self.halted_since_landslide = false;
             self.braked_since = false;
+            self.waiting = None;
             self.rolled = None;
             self.service_check = None;
             self.emergency_check = None;
@@ -699,6 +704,7 @@ impl Unit {
         if 10 * report.measured >= 7 * self.train.full {
             self.braked_since = true;
         }
+        self.waiting = self.waiting.map(|left| left - 1);
         self.rolled = if halt {
             Some(0)
         } else if report.buttons & NEUTRAL != 0 {
@@ -818,7 +824,7 @@ impl Unit {
         if self.halted_since_landslide {
             free |= LANDSLIDE;
         }
-        if !above(self.speed, 80) {
+        if self.waiting.map_or(!above(self.speed, 80), |left| left <= 0) {
             free |= BALISE;
         }
         if self.causes & !NO_SERVICE_DROP & !free == 0 {

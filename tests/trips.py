@@ -1,11 +1,12 @@
 #!/usr/bin/env python3
 """Writes a command stream that steers a supervision unit into its rules.
 
-    trips.py SEED COUNT [unknown|short]
+    trips.py SEED COUNT [unknown|short] [by-01]
 
 The same seed and count always give the same stream. COUNT commands are written,
 each of a known code and its whole length. With "unknown" one byte that is no code
-follows them, with "short" a command that breaks off.
+follows them, with "short" a command that breaks off. With "by-01" the trips steer
+by 01 alone, as before F-2 of 02: then they are the commands recorded before it.
 
 A picture of the unit is kept beside the stream, so that the trips know what would
 be taken next and where the limits lie. Only the stream is written.
@@ -58,7 +59,9 @@ def upto(k):
 class Picture:
     """What the trips believe of the unit: all but its report."""
 
-    def __init__(self):
+    def __init__(self, by_01=False):
+        """`by_01`: with the release of bit 9 that 01 has, before F-2 of 02."""
+        self.by_01 = by_01
         self.started = False
         self.number = 0
         self.last = b""
@@ -81,6 +84,7 @@ class Picture:
         self.forty = False
         self.causes = 0
         self.since = set()
+        self.low = None
         self.rolled = None
         self.service = None
         self.emergency = None
@@ -228,6 +232,7 @@ class Picture:
             return 10
         before = self.causes
         self.causes |= 1 << 9
+        self.low = 0 if self.v <= upto(80) and not self.by_01 else None
         self.start_checks(before)
         return 0
 
@@ -305,6 +310,8 @@ class Picture:
             self.rolled += moved
         if 10 * measured >= 7 * self.train["full"]:
             self.since.add(6)
+        if self.low is not None:
+            self.low += 1
         if v >= at(self.vmax + 10):
             self.causes |= 1 << 0
         if v >= at(self.vmax + self.train["e_margin"]):
@@ -352,9 +359,10 @@ class Picture:
 
     def releasable(self, v, braking):
         slow = v < at(self.vmax + 5)
+        unheld = v <= upto(80) if self.low is None else self.low >= 20
         free = 1 << 10
         for bits, condition in (((0, 1, 7), slow), ((2, 3, 4), not braking), ((5,), 5 in self.since),
-                                ((6,), 6 in self.since), ((8,), 8 in self.since), ((9,), v <= upto(80))):
+                                ((6,), 6 in self.since), ((8,), 8 in self.since), ((9,), unheld)):
             if condition:
                 free |= sum(1 << bit for bit in bits)
         if not self.causes & ~free & ~(1 << 11):
@@ -374,11 +382,11 @@ class Over(Exception):
 
 
 class Trips:
-    def __init__(self, seed, count):
+    def __init__(self, seed, count, by_01):
         self.random = random.Random(seed)
         self.left = count
         self.out = []
-        self.unit = Picture()
+        self.unit = Picture(by_01)
         self.decks = {}
         self.disturbing = 0.05
         self.fresh_driver()
@@ -702,6 +710,7 @@ class Trips:
             if not self.unit.causes:
                 break
             self.neutral = 0
+            self.wait_for_hold()
             self.odometer(v=0, moved=0, measured=self.unit.train["full"])
             self.odometer(v=0, moved=0, press=LOSS | TEXT)
         if self.chance(0.5):
@@ -713,6 +722,12 @@ class Trips:
             if self.unit.service is None and self.unit.emergency is None:
                 break
             self.odometer(moved=self.pick(0, 5))
+
+    def wait_for_hold(self):
+        """Stands still until an error at low speed holds bit 9 no longer."""
+        for _ in range(20):
+            if self.unit.low is not None and self.unit.low < 19 and self.unit.causes >> 9 & 1:
+                self.odometer(v=0, moved=0)
 
     def press(self, button):
         """A button pressed, held and let go, at the speed that stands."""
@@ -1078,6 +1093,9 @@ class Trips:
         if self.chance(0.2):
             self.send(BALISE_ERROR)
         self.press(LOSS)
+        for _ in range(22):
+            if self.unit.low is not None and self.unit.causes >> 9 & 1:
+                self.odometer(v=self.pick(0, upto(80), upto(80) + 1), moved=0, press=self.pick(0, LOSS))
 
     def roll(self):
         """Rolling in neutral to 500 cm and over."""
@@ -1387,8 +1405,9 @@ class Trips:
 
 def main(arguments):
     seed, count = int(arguments[0]), int(arguments[1])
-    tail = {"": b"", "unknown": b"\x7f\x01", "short": b"\x10\x00\x00"}[(arguments + ["", "", ""])[2]]
-    sys.stdout.buffer.write(Trips(seed, count).write() + tail)
+    words = arguments[2:]
+    tail = b"\x7f\x01" if "unknown" in words else b"\x10\x00\x00" if "short" in words else b""
+    sys.stdout.buffer.write(Trips(seed, count, "by-01" in words).write() + tail)
 
 
 if __name__ == "__main__":

@@ -6,6 +6,7 @@ ghost use lib.Dec.{leb};
 ghost use Rattle.rules.specs.Numbers.{isOrder};
 ghost use Rattle.rules.specs.Table.{stands, causesFor, noCauses, curveOrders, orderedAt, isStop, orderedBy, strengthOf, standsWith, anyStands, orderOf, isSlow, releasableWhen, othersReleasable, addedCauses, isDropped, leftCauses};
 ghost use Rattle.rules.specs.Reports.{wouldDrop};
+use crate::hold::is_unheld;
 use encoding::numbers::is_code;
 use encoding::numbers::order_number;
 use rules::Causes;
@@ -209,6 +210,7 @@ fn releasable(s: Seen, others: bool) -> Causes
 {
     let slow = is_slow(s);
     let clear = !s.d;
+    let hold = s.since.balise;
     Causes {
         overspeed: slow,
         excess: slow,
@@ -219,7 +221,7 @@ fn releasable(s: Seen, others: bool) -> Causes
         unexpected: s.since.unexpected,
         speed: slow,
         landslide: s.since.landslide,
-        balise: 9 * (s.speed as u32) <= 250 * 80,
+        balise: is_unheld(hold, s.speed),
         rolling: true,
         service: others,
     }

@@ -3,5 +3,6 @@
 // No public function has a `requires`: each is defined at every value of its parameters.
 pub mod causes;
 pub mod check;
+pub mod hold;
 pub mod release;
 pub mod seeing;

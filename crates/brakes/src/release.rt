@@ -13,10 +13,13 @@ use crate::check::check_left;
 use crate::check::checked_at;
 use crate::check::checked_by;
 use crate::check::fails_at;
+use crate::hold::held_on;
+use crate::hold::hold_by;
 use rules::Brakes;
 use rules::Causes;
 use rules::Check;
 use rules::Code;
+use rules::Hold;
 use rules::Order;
 use rules::Reading;
 use rules::Roll;
@@ -34,6 +37,7 @@ pub fn fresh_brakes() -> Brakes
             aimed: false,
             unexpected: false,
             landslide: false,
+            balise: Hold::Undecided,
         },
         service: Check::Idle,
         emergency: Check::Idle,
@@ -61,10 +65,12 @@ fn since_at(full: u16, r: Reading, since: Since) -> Since
     ensures { λ s. ⌜ s ≡ sinceAt full r since ⌝ }
 {
     let halted = is_halt(r);
+    let hold = since.balise;
     Since {
         aimed: since.aimed | halted,
         unexpected: since.unexpected | is_braked(full, r),
         landslide: since.landslide | halted,
+        balise: held_on(hold),
     }
 }
 
@@ -228,19 +234,21 @@ pub fn released_brakes(s: Seen, loss: bool, text: bool, b: Brakes) -> Brakes
 
 // ---- commands 30 and 32
 
-fn since_by(code: Code, which: u8, since: Since) -> Since
-    ensures { λ r. ⌜ r ≡ sinceBy code which since ⌝ }
+fn since_by(code: Code, which: u8, v: u16, since: Since) -> Since
+    ensures { λ r. ⌜ r ≡ sinceBy code which v since ⌝ }
 {
+    let hold = since.balise;
     Since {
         aimed: since.aimed & !is_stop(0, code, which),
         unexpected: since.unexpected & !is_stop(1, code, which),
         landslide: since.landslide & !is_stop(2, code, which),
+        balise: hold_by(code, v, hold),
     }
 }
 
-// The brakes with the causes that a command adds.
-pub fn brakes_by(code: Code, which: u8, b: Brakes) -> Brakes
-    ensures { λ r. ⌜ r ≡ brakesBy code which b ⌝ }
+// The brakes with the causes that a command adds; v is the last odometer figure.
+pub fn brakes_by(code: Code, which: u8, v: u16, b: Brakes) -> Brakes
+    ensures { λ r. ⌜ r ≡ brakesBy code which v b ⌝ }
 {
     let service = b.service;
     let emergency = b.emergency;
@@ -248,7 +256,7 @@ pub fn brakes_by(code: Code, which: u8, b: Brakes) -> Brakes
     let after = added_by(code, which, b.causes);
     Brakes {
         causes: after,
-        since: since_by(code, which, b.since),
+        since: since_by(code, which, v, b.since),
         service: checked_by(any_stands(b.causes), any_stands(after), service),
         emergency: checked_by(
             stands_with(Order::Emergency, b.causes),

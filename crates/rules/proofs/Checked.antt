@@ -202,20 +202,21 @@ module _ (stm : Stm) (x : Sent) (e : isAccepted (answerTo stm x) ≡ true) (u : 
 -- ---- another command, where its order stands before and after
 
 pub other-check : (code : Code) (which : ℕ) (before after : Brakes) (check : Brakes → Check) (ordered : Causes → Bool)
-    → ((b : Brakes) → check (brakesBy code which b) ≡ checkedBy (ordered (b .causes)) (ordered (brakesBy code which b .causes)) (check b))
+    → ((v : ℕ) (b : Brakes)
+    → check (brakesBy code which v b) ≡ checkedBy (ordered (b .causes)) (ordered (brakesBy code which v b .causes)) (check b))
     → ByOther code which before after
     → (ordered (before .causes) ≡ true → check after ≡ check before)
     × (ordered (before .causes) ≡ false → ordered (after .causes) ≡ true → check after ≡ begins)
 unfolding checkedBy
 other-check code which before after check ordered by (unchanged none e) =
     (λ stood. ap check e, λ away stands. impossible (sym away ∙ ap (λ b. ordered (b .causes)) (sym e) ∙ stands))
-other-check code which before after check ordered by (orders e) = (
+other-check code which before after check ordered by (orders v e) = (
   λ stood.
       ap check e
-      ∙ by before
-      ∙ ap (λ t. checkedBy t (ordered (brakesBy code which before .causes)) (check before)) stood,
+      ∙ by v before
+      ∙ ap (λ t. checkedBy t (ordered (brakesBy code which v before .causes)) (check before)) stood,
   λ away stands.
       ap check e
-      ∙ by before
+      ∙ by v before
       ∙ ap₂ (λ s t. cond s (check before) (cond t begins Check.Idle)) away (ap (λ b. ordered (b .causes)) (sym e) ∙ stands),
 )

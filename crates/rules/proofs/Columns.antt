@@ -22,6 +22,7 @@ use Rattle.wire.specs.Form.{operandsOf}
 use Rattle.rules.specs.Numbers.{bitNumber, isAccepted, codeOf}
 use Rattle.rules.specs.Operands.{codeByte}
 use Rattle.rules.specs.Places.{allOf}
+use Rattle.rules.specs.Hold.{isUnheld}
 use Rattle.rules.specs.Speeds.{brakingOf, judgedNow}
 use Rattle.rules.specs.Table.{causes, stands, curveOrders, orderedAt, orderedBy, isSlow, releasableWhen, othersReleasable, isReleasable, addedCauses}
 use Rattle.rules.specs.Checks.{isDrop}
@@ -30,9 +31,10 @@ use Rattle.rules.specs.Odometer.{isInsufficient, seenWith, seenOf, seenI
 use Rattle.rules.specs.Runs.{Sent, answerTo, stateAfter}
 use Rattle.rules.specs.History.{Tells, isSupervised, brakingIn, intervalIn}
 use Rattle.rules.specs.Braking.{measuredAt, seenAt, orderedNow, releasableNow}
-use Rattle.rules.specs.Columns.{vmaxIs, IsFast, BrakesFrom, isShort, CurveOrders, Orders, OrderedAtReport, commandOrders, FreedWhen, IsFree, ReleasableAtReport, OrderedByCommand}
+use Rattle.rules.specs.Columns.{vmaxIs, IsFast, BrakesFrom, isShort, CurveOrders, Orders, OrderedAtReport, commandOrders, UnheldWhen, FreedWhen, IsFree, ReleasableAtReport, OrderedByCommand}
 use Rattle.rules.specs.declared.Cause.{Cause}
 use Rattle.rules.specs.declared.Causes.{Causes}
+use Rattle.rules.specs.declared.Hold.{Hold}
 use Rattle.rules.specs.declared.Roll.{Roll}
 use Rattle.rules.specs.declared.Seen.{Seen}
 use Rattle.rules.specs.declared.Stm.{Stm}
@@ -50,6 +52,11 @@ tells-leb a b = (leb-true a b, le-leb a b)
 
 tells-ltb : (a b : ℕ) → Tells (ltb a b) (a < b)
 tells-ltb a b = (ltb-true a b, lt-ltb a b)
+
+tells-unheld : (hold : Hold) (v : ℕ) → Tells (isUnheld hold v) (UnheldWhen hold v)
+tells-unheld Hold.Undecided v = tells-leb (9 * v) (250 * 80)
+tells-unheld Hold.High v = tells-leb (9 * v) (250 * 80)
+tells-unheld (Hold.Low count) v = tells-leb 20 count
 
 tells-not : (t : Bool) {A : Type 0} → Tells t A → Tells (not t) (A → ⊥)
 tells-not true told = (λ e. impossible e, λ f. absurd (f (told .0 refl)))
@@ -180,7 +187,7 @@ module _ (stm : Stm) where
   freed-in Cause.UnexpectedStop = tells-itself (stm .brakes .since .unexpected)
   freed-in Cause.UnexpectedSpeed = tells-ltb (9 * stm .kept .speed) (250 * (vmaxIs stm + 5))
   freed-in Cause.Landslide = tells-itself (stm .brakes .since .landslide)
-  freed-in Cause.BaliseFault = tells-leb (9 * stm .kept .speed) (250 * 80)
+  freed-in Cause.BaliseFault = tells-unheld (stm .brakes .since .balise) (stm .kept .speed)
   freed-in Cause.Rolling = (λ e. tt, λ u. refl)
   freed-in Cause.ServiceFault = (λ e. tt, λ u. refl)
 

@@ -47,6 +47,7 @@ holds-nothing stm t b = record {
   aimed = rw b;
   unexpected = rw b;
   landslide = rw b;
+  balise = rw b;
   service = rw b;
   emergency = rw b;
   roll = rw b;

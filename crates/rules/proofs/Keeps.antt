@@ -99,13 +99,13 @@ module _ (stm : Stm) (p : Parts stm) where
 
   -- ---- causes that a command adds, in DA
 
-  by-parts : (code : Code) (which : ℕ) → LimitsSound (stm .train) → isState State.DA (stm .control .state) ≡ true
-      → Parts (withBrakes stm (brakesBy code which (stm .brakes)))
+  by-parts : (code : Code) (which v : ℕ) → LimitsSound (stm .train) → isState State.DA (stm .control .state) ≡ true
+      → Parts (withBrakes stm (brakesBy code which v (stm .brakes)))
   unfolding brakesBy
-  by-parts code which limits da = record {
+  by-parts code which v limits da = record {
     body =
-        with-brakes stm (p .body) (brakesBy code which (stm .brakes))
-        (brakes-by (stm .train) code which (stm .brakes) limits (p .body .counts));
+        with-brakes stm (p .body) (brakesBy code which v (stm .brakes))
+        (brakes-by (stm .train) code which v (stm .brakes) limits (p .body .counts));
     at = record {
       braking = λ _. or-left (isState State.DA (stm .control .state)) (isState State.FA (stm .control .state)) da;
       failed = p .at .failed;
@@ -118,7 +118,7 @@ stopped-parts : (which : ℕ) (stm : Stm) → Parts stm → LimitsSound (stm .tr
 unfolding stopped
 stopped-parts which stm p limits da =
     let forty = fortyBy which (stm .track .forty) in
-    by-parts (withTrack stm (withForty (stm .track) forty)) (forty-parts stm p forty) Code.StopPassed which limits da
+    by-parts (withTrack stm (withForty (stm .track) forty)) (forty-parts stm p forty) Code.StopPassed which (stm .kept .speed) limits da
 
 -- ---- operands in range
 
@@ -201,7 +201,7 @@ carried-parts Code.EndSection s stm g p =
     (section-ended length (stm .track .sections) (p .body .places .sections) (byteAt s 0) (limits .length))
 carried-parts Code.StopPassed s stm g p = stopped-parts (byteAt s 0) stm p (train-limits stm p (g .started)) (g .allowed)
 carried-parts Code.Proceed s stm g p = forty-parts stm p false
-carried-parts Code.BaliseError s stm g p = by-parts stm p Code.BaliseError 0 (train-limits stm p (g .started)) (g .allowed)
+carried-parts Code.BaliseError s stm g p = by-parts stm p Code.BaliseError 0 (stm .kept .speed) (train-limits stm p (g .started)) (g .allowed)
 
 -- ---- what is remembered of it
 

@@ -18,6 +18,7 @@ pub mod Stops
 pub mod Rolling
 pub mod Checked
 pub mod Timers
+pub mod BaliseErrors
 pub mod Ground
 pub mod FreePlaces
 pub mod Readings

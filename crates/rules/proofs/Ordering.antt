@@ -158,7 +158,7 @@ ordered-in-failure stm x cause e u d =
     let added = report-brakes stm (x .command) u .1 (rw after at d) in
     rw (after, added, causes-added, stands-added)
 
--- the notes for bits 5, 6 and 8 are those that the table looks at
+-- the notes for bits 5, 6, 8 and 9 are those that the table looks at
 pub since-after : (stm : Stm) (x : Sent) → isAccepted (answerTo stm x) ≡ true → isSupervised stm (x .command) ≡ true
     → stateAfter stm x .brakes .since ≡ seenAt stm (x .command) .since
 unfolding remembered endedAt releasedAt releasedBrakes leftBrakes addedAt adds addedBrakes seenAt seenIn seenOf seenWith
@@ -176,7 +176,7 @@ since-seen stm command = refl
 -- leaves the brakes as they were and orders nothing, or orders
 pub data ByOther (code : Code) (which : ℕ) (before after : Brakes) : Type 0 where
   unchanged : causesFor (orderedBy code which) ≡ causesFor (λ each. false) → after ≡ before → ByOther code which before after
-  orders : after ≡ brakesBy code which before → ByOther code which before after
+  orders : (v : ℕ) → after ≡ brakesBy code which v before → ByOther code which before after
 
 pub entered-keeps : (state : State) (stm : Stm) → isState State.CS state ≡ false → entered state stm .brakes ≡ stm .brakes
 entered-keeps State.DE stm f = refl
@@ -206,9 +206,9 @@ by-other Code.NewCurve s stm u f = unchanged refl refl
 by-other Code.EndCurve s stm u f = unchanged refl refl
 by-other Code.NewSection s stm u f = unchanged refl refl
 by-other Code.EndSection s stm u f = unchanged refl refl
-by-other Code.StopPassed s stm u f = orders refl
+by-other Code.StopPassed s stm u f = orders (stm .kept .speed) refl
 by-other Code.Proceed s stm u f = unchanged refl refl
-by-other Code.BaliseError s stm u f = orders refl
+by-other Code.BaliseError s stm u f = orders (stm .kept .speed) refl
 
 pub brakes-by-other : (stm : Stm) (x : Sent)
     → isAccepted (answerTo stm x) ≡ true → isSupervised stm (x .command) ≡ false → freshens (x .command) ≡ false
@@ -221,7 +221,7 @@ stands-by-other : (code : Code) (which : ℕ) (before after : Brakes) (cause : C
 unfolding brakesBy
 stands-by-other code which before after cause (unchanged none e) =
     rw (e, same-tests (orderedBy code which) (λ each. false) none cause, or-false)
-stands-by-other code which before after cause (orders e) = rw (e, stands-added)
+stands-by-other code which before after cause (orders v e) = rw (e, stands-added)
 
 pub others-drop-nothing : OthersDropNothing
 others-drop-nothing stm x cause e u f =

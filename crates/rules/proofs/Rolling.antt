@@ -162,7 +162,7 @@ Counted stm rs = (isIn State.FA stm ≡ true) ⊎ (stm .brakes .roll ≡ rollOf 
 other-roll : (code : Code) (which : ℕ) (before after : Brakes) → ByOther code which before after → after .roll ≡ before .roll
 unfolding brakesBy
 other-roll code which before after (unchanged none e) = ap (λ b. b .roll) e
-other-roll code which before after (orders e) = ap (λ b. b .roll) e
+other-roll code which before after (orders v e) = ap (λ b. b .roll) e
 
 -- in FA only a start is taken
 fa-start : (stm : Stm) (x : Sent) → isAccepted (answerTo stm x) ≡ true → isIn State.FA stm ≡ true → freshens (x .command) ≡ true

@@ -52,7 +52,7 @@ bit-is Cause.BaliseFault = refl
 bit-is Cause.Rolling = refl
 bit-is Cause.ServiceFault = refl
 
-bit-tells : (a b : Cause) → bitNumber a ≡ bitNumber b → a ≡ b
+pub bit-tells : (a b : Cause) → bitNumber a ≡ bitNumber b → a ≡ b
 bit-tells a b e = sym (bit-is a) ∙ ap (λ n. getD causes n Cause.Overspeed) e ∙ bit-is b
 
 -- ---- a cause, its note, the operand of the command 30 that orders it, and the reports that are noted
@@ -61,8 +61,8 @@ record Noted (stop : ℕ) (cause : Cause) (note : Since → Bool) (test : ℕ �
   ordering : (code : Code) (which : ℕ) → orderedBy code which cause ≡ isStop stop code which
   releasing : (s : Seen) (others : Bool) → releasableWhen s others cause ≡ note (s .since)
   noting : (full : ℕ) (r : Reading) (since : Since) → note (sinceAt full r since) ≡ (note since || test full r)
-  afresh : (code : Code) (which : ℕ) (since : Since)
-      → note (sinceBy code which since) ≡ (note since && not (isStop stop code which))
+  afresh : (code : Code) (which v : ℕ) (since : Since)
+      → note (sinceBy code which v since) ≡ (note since && not (isStop stop code which))
   freeing : (stm : Stm) (command : List ℕ) → frees stm command ≡ (isSupervised stm command && test (stm .train .full) (readingIn command))
   freed : (stm : Stm) → FreedWhen stm cause → note (stm .brakes .since) ≡ true
 
@@ -72,7 +72,7 @@ aimed-noted = record {
   ordering = λ _ _. refl;
   releasing = λ _ _. refl;
   noting = λ _ _ _. refl;
-  afresh = λ _ _ _. refl;
+  afresh = λ _ _ _ _. refl;
   freeing = λ _ _. refl;
   freed = λ _ e. e;
 }
@@ -83,7 +83,7 @@ unexpected-noted = record {
   ordering = λ _ _. refl;
   releasing = λ _ _. refl;
   noting = λ _ _ _. refl;
-  afresh = λ _ _ _. refl;
+  afresh = λ _ _ _ _. refl;
   freeing = λ _ _. refl;
   freed = λ _ e. e;
 }
@@ -94,7 +94,7 @@ landslide-noted = record {
   ordering = λ _ _. refl;
   releasing = λ _ _. refl;
   noting = λ _ _ _. refl;
-  afresh = λ _ _ _. refl;
+  afresh = λ _ _ _ _. refl;
   freeing = λ _ _. refl;
   freed = λ _ e. e;
 }
@@ -124,9 +124,9 @@ module _ {stop : ℕ} {cause : Cause} {note : Since → Bool} {test : ℕ → Re
         → note (after .since) ≡ note (stm .brakes .since)
     unfolding brakesBy
     other-noted after (unchanged none same) n = ap (λ b. note (b .since)) same
-    other-noted after (orders same) n =
+    other-noted after (orders v same) n =
         ap (λ b. note (b .since)) same
-        ∙ w .afresh code which (stm .brakes .since)
+        ∙ w .afresh code which v (stm .brakes .since)
         ∙ ap (λ t. note (stm .brakes .since) && not t) n
         ∙ and-true (note (stm .brakes .since))
 
@@ -145,12 +145,12 @@ module _ {stop : ℕ} {cause : Cause} {note : Since → Bool} {test : ℕ → Re
   Waits b = (stands (b .causes) cause ≡ true) × (note (b .since) ≡ false)
 
   -- after its command
-  waits-ordered : (b : Brakes) → Waits (brakesBy Code.StopPassed stop b)
+  waits-ordered : (v : ℕ) (b : Brakes) → Waits (brakesBy Code.StopPassed stop v b)
   unfolding brakesBy
-  waits-ordered b =
+  waits-ordered v b =
       let same = eq-eqb stop stop refl in (
         rw (stands-added, w .ordering Code.StopPassed stop, same, or-true),
-        rw (w .afresh Code.StopPassed stop (b .since), same, and-false),
+        rw (w .afresh Code.StopPassed stop v (b .since), same, and-false),
       )
 
   waits-after : (stm : Stm) (x : Sent) → isAccepted (answerTo stm x) ≡ true → passesStop stop (x .command) ≡ true
@@ -162,7 +162,7 @@ module _ {stop : ℕ} {cause : Cause} {note : Since → Bool} {test : ℕ → Re
         brakes-after stm x e,
         code-is Code.StopPassed (codeOf (codeByte (x .command))) (t .0),
         eqb-true (firstOperand (x .command)) stop (t .1),
-      ) (waits-ordered (stm .brakes))
+      ) (waits-ordered (stm .kept .speed) (stm .brakes))
 
   -- ---- any list
 
@@ -213,7 +213,7 @@ module _ {stop : ℕ} {cause : Cause} {note : Since → Bool} {test : ℕ → Re
         → note (after .since) ≡ false
     unfolding brakesBy
     unnoted-other after (unchanged none same) = rw (same, waits .1)
-    unnoted-other after (orders same) = rw (same, w .afresh _ _ (stm .brakes .since), waits .1)
+    unnoted-other after (orders v same) = rw (same, w .afresh _ _ v (stm .brakes .since), waits .1)
 
     unnoted : (supervised : Bool) → isSupervised stm (x .command) ≡ supervised → note (stateAfter stm x .brakes .since) ≡ false
     unnoted true u = ap note (since-after stm x e u) ∙ unnoted-at u

@@ -170,8 +170,8 @@ record Checks (ordered : Stm → Bool) (standing : Causes → Bool) (check : Bra
       × (check (stateAfter stm x .brakes)
       ≡ checkedAt (standing (stm .brakes .causes)) (standing (addedAt stm (x .command) .brakes .causes)) (limit (stm .train))
       (isDrop (measuredAt stm (x .command) .feedback)) (check (stm .brakes)))
-  by : (code : Code) (which : ℕ) (b : Brakes)
-      → check (brakesBy code which b) ≡ checkedBy (standing (b .causes)) (standing (brakesBy code which b .causes)) (check b)
+  by : (code : Code) (which v : ℕ) (b : Brakes)
+      → check (brakesBy code which v b) ≡ checkedBy (standing (b .causes)) (standing (brakesBy code which v b .causes)) (check b)
 
 module _ {ordered : Stm → Bool} {standing : Causes → Bool} {check : Brakes → Check} {limit : Train → ℕ}
     (c : Checks ordered standing check limit) where
@@ -216,7 +216,7 @@ service-checks = record {
   told = ordered-is;
   unordered = λ stm x e f. no-order-fresh stm x e f .0;
   reported = λ stm x e u stands. (added-stands stm x e u stands, service-after stm x e u stands);
-  by = λ code which b. refl;
+  by = λ code which v b. refl;
 }
 
 emergency-checks : Checks isEmergency (standsWith Order.Emergency) (λ b. b .emergency) (λ train. train .check)
@@ -225,7 +225,7 @@ emergency-checks = record {
   told = emergency-is;
   unordered = λ stm x e f. no-order-fresh stm x e f .1;
   reported = λ stm x e u stands. (added-emergency-stands stm x e u stands, emergency-after stm x e u stands);
-  by = λ code which b. refl;
+  by = λ code which v b. refl;
 }
 
 -- ---- what they lead to
@@ -293,7 +293,7 @@ faults-by : (code : Code) (which : ℕ) (before after : Brakes) → ByOther code
     → (after .drift ≡ before .drift) × (after .failed ≡ before .failed)
 unfolding brakesBy
 faults-by code which before after (unchanged none e) = (ap (λ b. b .drift) e, ap (λ b. b .failed) e)
-faults-by code which before after (orders e) = (ap (λ b. b .drift) e, ap (λ b. b .failed) e)
+faults-by code which before after (orders v e) = (ap (λ b. b .drift) e, ap (λ b. b .failed) e)
 
 pub faults-stay : FaultsStay
 faults-stay stm x e u f = faults-by _ _ (stm .brakes) (stateAfter stm x .brakes) (brakes-by-other stm x e u f)

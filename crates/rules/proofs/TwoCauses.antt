@@ -7,10 +7,12 @@ use native.Mathlib.Nat.{le-refl, le-trans}
 use native.Mathlib.Omega.{arith}
 use lib.Dec.{lit≤}
 use Rattle.rules.specs.Numbers.{orderNumber}
+use Rattle.rules.specs.Hold.{isUnheld}
 use Rattle.rules.specs.Table.{causes, stands, curveOrders, orderedAt, standsWith, orderOf}
 use Rattle.rules.specs.Table.{isSlow, isReleasable, addedCauses, isDropped, leftCauses}
 use Rattle.rules.specs.declared.Cause.{Cause}
 use Rattle.rules.specs.declared.Causes.{Causes}
+use Rattle.rules.specs.declared.Hold.{Hold}
 use Rattle.rules.specs.declared.Order.{Order}
 use Rattle.rules.specs.declared.Seen.{Seen}
 use Rattle.rules.proofs.Monotone.{_⇒_, equal-implies, same-implies, and-implies, or-implies, not-implies}
@@ -30,6 +32,7 @@ pub record SeenBelow (s s′ : Seen) : Type 0 where
   pub halka : s′ .halka ≡ s .halka
   pub aimed : s′ .since .aimed ⇒ s .since .aimed
   pub landslide : s′ .since .landslide ⇒ s .since .landslide
+  pub balise : s′ .since .balise ≡ s .since .balise
   pub rolled : s .rolled ⇒ s′ .rolled
 
 -- a cause that stands in the first stands in the second
@@ -82,6 +85,15 @@ module _ {s s′ : Seen} (seen : SeenBelow s s′) where
   clear : not (s′ .d) ⇒ not (s .d)
   clear = not-implies (seen .d)
 
+  -- one hold, and no lower speed
+  unheld-at : (hold : Hold) → isUnheld hold (s′ .speed) ⇒ isUnheld hold (s .speed)
+  unheld-at Hold.Undecided = leb-implies faster (le-refl (250 * 80))
+  unheld-at Hold.High = leb-implies faster (le-refl (250 * 80))
+  unheld-at (Hold.Low count) = same-implies
+
+  unheld : isUnheld (s′ .since .balise) (s′ .speed) ⇒ isUnheld (s .since .balise) (s .speed)
+  unheld = rw (seen .balise) (unheld-at (s .since .balise))
+
   -- the note of an unexpected stop counts only where one stands; bit 11 does not stand in the first after the report
   module _ (fault fault′ loss text : Bool) {c c′ : Causes} (stood : CausesBelow c c′)
       (noted : c .unexpected ≡ true → s′ .since .unexpected ⇒ s .since .unexpected)
@@ -100,7 +112,7 @@ module _ {s s′ : Seen} (seen : SeenBelow s s′) where
     bit-after Cause.UnexpectedSpeed = bit loss (stood .at Cause.UnexpectedSpeed) same-implies (λ t. slow)
     bit-after Cause.Landslide = bit loss (stood .at Cause.Landslide) same-implies (λ t. seen .landslide)
     bit-after Cause.BaliseFault =
-        bit loss (stood .at Cause.BaliseFault) same-implies (λ t. leb-implies faster (le-refl (250 * 80)))
+        bit loss (stood .at Cause.BaliseFault) same-implies (λ t. unheld)
     bit-after Cause.Rolling = bit text (stood .at Cause.Rolling) (seen .rolled) (λ t. same-implies)
     bit-after Cause.ServiceFault = record { run = λ t. absurd (false≢true (sym sound ∙ t)) }
 

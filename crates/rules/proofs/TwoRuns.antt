@@ -51,6 +51,7 @@ brakes-at-first same alike = rw same (record {
   causes = record { at = λ cause. same-implies };
   aimed = same-implies;
   landslide = same-implies;
+  balise = refl;
   stop = λ stood. (alike stood, same-implies);
 })
 

@@ -8,6 +8,7 @@ use borrow.Author.Tests.{eqb-true, eq-eqb}
 use Rattle.pressure.specs.declared.Measured.{Measured}
 use Rattle.curve.specs.declared.Interval.{Interval}
 use Rattle.rules.specs.Table.{stands}
+use Rattle.rules.specs.Hold.{heldOn}
 use Rattle.rules.specs.Checks.{isDrop}
 use Rattle.rules.specs.Releases.{isHalt, isBraked, sinceAt, rolledOn, rollAt, isRolled, notedBrakes}
 use Rattle.rules.specs.Releases.{serviceFails, causesAt, addedBrakes, leftBrakes, releasedBrakes}
@@ -29,12 +30,13 @@ use Rattle.rules.proofs.TwoCauses.{SeenBelow, CausesBelow, causes-after
 
 -- ---- the two units
 
--- the second has every cause of the first, and a halt noted only where the first has one; where an unexpected stop stands in the
+-- the second has every cause of the first, and a halt noted only where the first has one; bit 9 is held alike; where an unexpected stop stands in the
 -- first, the full decelerations are equal, and the second has its note only where the first has it
 pub record BrakesBelow (full full′ : ℕ) (b b′ : Brakes) : Type 0 where
   pub causes : CausesBelow (b .causes) (b′ .causes)
   pub aimed : b′ .since .aimed ⇒ b .since .aimed
   pub landslide : b′ .since .landslide ⇒ b .since .landslide
+  pub balise : b′ .since .balise ≡ b .since .balise
   pub stop : stands (b .causes) Cause.UnexpectedStop ≡ true → (full′ ≡ full) × (b′ .since .unexpected ⇒ b .since .unexpected)
 
 -- what a report keeps of the comparison, the last command and its report left out
@@ -103,6 +105,7 @@ module _ {r r′ : Reading} (readings : ReadingsBelow r r′) where
     causes = below .causes;
     aimed = or-implies (below .aimed) halts;
     landslide = or-implies (below .landslide) halts;
+    balise = ap heldOn (below .balise);
     stop = λ stood.
         let (same, noted) = below .stop stood in
         (same, or-implies noted (brakes-alike (train .full) (train′ .full) same));
@@ -150,6 +153,7 @@ seen-below below still = record {
   halka = below .kept .halka;
   aimed = below .brakes .aimed;
   landslide = below .brakes .landslide;
+  balise = below .brakes .balise;
   rolled = record { run = λ e. absurd (false≢true (sym still ∙ e)) };
 }
 
@@ -175,6 +179,7 @@ module _ {s s′ : Seen} (seen : SeenBelow s s′) (train train′ : Train) (dro
         causes = causes-after seen fault fault′ loss text (below .causes) noted sound;
         aimed = below .aimed;
         landslide = below .landslide;
+        balise = below .balise;
         stop = λ e. below .stop (stop-stood s fault loss text (b .causes) e);
       }
 

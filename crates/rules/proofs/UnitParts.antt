@@ -60,7 +60,7 @@ unit-parts stm u = record {
       curves = record { size = u .curvePlaces; each = u .curves; once = u .curveIds };
       sections = record { size = u .sectionPlaces; each = u .sections; once = u .sectionIds };
     };
-    counts = record { service = u .service; emergency = u .emergency; roll = u .roll; drift = u .drift };
+    counts = record { service = u .service; emergency = u .emergency; hold = u .hold; roll = u .roll; drift = u .drift };
     reached = u .feedback;
     speed = u .speed;
   };
@@ -81,6 +81,7 @@ parts-unit stm p bytes report =
       feedback = b .reached;
       service = b .counts .service;
       emergency = b .counts .emergency;
+      hold = b .counts .hold;
       roll = b .counts .roll;
       braking = p .at .braking;
       drift = b .counts .drift;

@@ -187,9 +187,12 @@ speedCases =
     -- the least of the sections; a held id is replaced
     ∷ after (section 1 90 ∷ section 2 80 ∷ section 3 85 ∷ []) (vmax 80 ∷ permitted 80 ∷ [])
     ∷ after (section 1 50 ∷ section 1 70 ∷ []) (vmax 70 ∷ [])
-    -- bit 9, "v ≤ 80 km/h": 2,222 and 2,223
-    ∷ after (baliseError ∷ atSpeed 2222 0 ∷ []) (causesAre (9 ∷ []) ∷ order 2 ∷ offered 1 ∷ [])
-    ∷ after (baliseError ∷ atSpeed 2223 0 ∷ []) (causesAre (9 ∷ []) ∷ offered 0 ∷ [])
+    -- bit 9, "v ≤ 80 km/h", after an error above it: 2,222 and 2,223
+    ∷ after (atSpeed 2223 0 ∷ baliseError ∷ atSpeed 2222 0 ∷ []) (causesAre (9 ∷ []) ∷ order 2 ∷ offered 1 ∷ [])
+    ∷ after (atSpeed 2223 0 ∷ baliseError ∷ atSpeed 2223 0 ∷ []) (causesAre (9 ∷ []) ∷ offered 0 ∷ [])
+    ∷ after (atSpeed 2223 0 ∷ baliseError ∷ atSpeed 2222 loss ∷ []) (causesAre [] ∷ [])
+    -- 02, F-2, after one at 80 km/h
+    ∷ after (atSpeed 2222 0 ∷ baliseError ∷ atSpeed 2222 loss ∷ []) (causesAre (9 ∷ []) ∷ offered 0 ∷ [])
     -- "Other commands judge nothing new"
     ∷ after (atSpeed 2500 0 ∷ section 1 50 ∷ []) (vmax 50 ∷ causesAre [] ∷ [])
     ∷ after (atSpeed 2500 0 ∷ section 1 50 ∷ atSpeed 2500 0 ∷ []) (causesAre (0 ∷ 1 ∷ []) ∷ [])
@@ -203,7 +206,7 @@ stopCases =
     after (stop 0 ∷ []) (causesAre (5 ∷ []) ∷ order 3 ∷ offered 0 ∷ [])
     ∷ after (stop 1 ∷ []) (causesAre (6 ∷ 7 ∷ []) ∷ order 3 ∷ [])
     ∷ after (stop 2 ∷ []) (causesAre (8 ∷ []) ∷ order 2 ∷ offered 0 ∷ [])
-    ∷ after (baliseError ∷ []) (causesAre (9 ∷ []) ∷ order 2 ∷ offered 1 ∷ [])
+    ∷ after (baliseError ∷ []) (causesAre (9 ∷ []) ∷ order 2 ∷ offered 0 ∷ [])
     -- "A halt is speed 0 and moved 0", since the command
     ∷ after (stop 0 ∷ report 0 0 0 1000 loss ∷ []) (causesAre [] ∷ [])
     ∷ after (stop 0 ∷ report 1 0 0 1000 loss ∷ []) (causesAre (5 ∷ []) ∷ [])
@@ -304,7 +307,7 @@ serviceCases =
     ∷ after (tooFast 1000 ∷ state 1 ∷ []) (stateIs 1 ∷ messages 0 ∷ [])
     ∷ []
 
--- after a balise error and two reports at standstill the count is 2 too
+-- after a balise error above 80 km/h and two reports at standstill the count is 2 too
 abbrev pub errorCases : List Case
 errorCases =
     after (again halts ∷ []) (causesAre (9 ∷ []) ∷ [])
@@ -316,6 +319,23 @@ errorCases =
     -- bit 11 is ordered and dropped in one report; an order that begins anew is checked anew
     ∷ after (atSpeed 0 loss ∷ []) (causesAre [] ∷ messages 0 ∷ [])
     ∷ after (atSpeed 0 loss ∷ baliseError ∷ halts ∷ halts ∷ []) (causesAre (9 ∷ []) ∷ [])
+    ∷ []
+
+-- 02, F-2: after an error at 80 km/h and 18 further reports
+abbrev pub holdCases : List Case
+holdCases =
+    -- "at the 20th further odometer report, at any speed": the 19th, the 20th, the 21st
+    after (atSpeed 0 loss ∷ []) (causesAre (9 ∷ []) ∷ offered 0 ∷ [])
+    ∷ after (halts ∷ atSpeed 2500 0 ∷ []) (causesAre (9 ∷ []) ∷ offered 1 ∷ [])
+    ∷ after (halts ∷ atSpeed 2500 loss ∷ []) (causesAre [] ∷ [])
+    ∷ after (halts ∷ halts ∷ atSpeed 2500 loss ∷ []) (causesAre [] ∷ [])
+    -- a repeat and a refused report do not count
+    ∷ after (again halts ∷ atSpeed 10001 0 ∷ atSpeed 0 loss ∷ []) (causesAre (9 ∷ []) ∷ offered 0 ∷ [])
+    -- "A new error decides anew and counts afresh", and takes an offer back
+    ∷ after (halts ∷ halts ∷ baliseError ∷ []) (offered 0 ∷ [])
+    ∷ after (halts ∷ baliseError ∷ atSpeed 0 loss ∷ []) (causesAre (9 ∷ []) ∷ offered 0 ∷ [])
+    ∷ after (atSpeed 2223 0 ∷ baliseError ∷ atSpeed 2222 loss ∷ []) (causesAre [] ∷ [])
+    ∷ after (atSpeed 2223 0 ∷ baliseError ∷ halts ∷ baliseError ∷ atSpeed 0 loss ∷ []) (causesAre (9 ∷ []) ∷ [])
     ∷ []
 
 -- in DA, before any order
@@ -408,8 +428,8 @@ settlingCases =
     ∷ after (withPressure 1911 ∷ halts ∷ []) (messages 0 ∷ [])
     ∷ after (withPressure 1911 ∷ slowTrain ∷ []) (messages 0 ∷ [])
     -- a press is fresh against the last report in whatever state: LOSS held since DE drops nothing
-    ∷ after (atSpeed 0 loss ∷ state 3 ∷ baliseError ∷ atSpeed 0 loss ∷ []) (causesAre (9 ∷ []) ∷ offered 1 ∷ [])
-    ∷ after (halts ∷ state 3 ∷ baliseError ∷ atSpeed 0 loss ∷ []) (causesAre [] ∷ offered 0 ∷ [])
+    ∷ after (atSpeed 2500 loss ∷ state 3 ∷ baliseError ∷ atSpeed 0 loss ∷ []) (causesAre (9 ∷ []) ∷ offered 1 ∷ [])
+    ∷ after (atSpeed 2500 0 ∷ state 3 ∷ baliseError ∷ atSpeed 0 loss ∷ []) (causesAre [] ∷ offered 0 ∷ [])
     ∷ []
 
 -- after a report with 500 kPa, one with 399.5 and 29 with 400: "A P_INT more than 20 from P0 is judged as if waiting", and of "a
@@ -686,13 +706,14 @@ slowInDA stm =
     ++ holdAfter stm (halts ∷ []) haltedCases
     ++ holdAfter stm (halts ∷ rolls 501 ∷ []) rolledCases
     ++ holdAfter stm (approaches 0 59574 1000 0) pastCases
+    ++ holdAfter stm (atSpeed 2222 0 ∷ baliseError ∷ replicate 18 halts) holdCases
     ++ slowInHS (further stm (state 1 ∷ state 2 ∷ []))
 
 abbrev pub fastInDA : Stm → List Bool
 fastInDA stm =
     map (holds stm) (orderCases ++ softCases)
     ++ holdAfter stm (replicate 3 (tooFast 1000)) serviceCases
-    ++ holdAfter stm (baliseError ∷ halts ∷ halts ∷ []) errorCases
+    ++ holdAfter stm (atSpeed 2500 0 ∷ baliseError ∷ halts ∷ halts ∷ []) errorCases
     ++ holdAfter stm (stop 0 ∷ halts ∷ []) emergencyCases
     ++ holdAfter stm (stop 2 ∷ halts ∷ []) landslideCases
 

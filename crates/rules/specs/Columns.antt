@@ -20,6 +20,7 @@ use Rattle.rules.specs.History.{Tells, isSupervised, passesStop, Holds, 
 use Rattle.rules.specs.Braking.{orderedNow, releasableNow}
 use Rattle.rules.specs.declared.Code.{Code}
 use Rattle.rules.specs.declared.Cause.{Cause}
+use Rattle.rules.specs.declared.Hold.{Hold}
 use Rattle.rules.specs.declared.Stm.{Stm}
 
 abbrev pub vmaxIs : Stm → ℕ
@@ -82,6 +83,12 @@ OrderedByCommand =
 
 -- ---- "Releasable when"
 
+-- 02, F-2: 20 further reports are counted, or "the old rule stands", "v ≤ 80 km/h"; over runs: see BaliseErrors
+abbrev pub UnheldWhen : Hold → ℕ → Type 0
+UnheldWhen Hold.Undecided v = 9 * v ≤ 250 * 80
+UnheldWhen Hold.High v = 9 * v ≤ 250 * 80
+UnheldWhen (Hold.Low count) v = 20 ≤ count
+
 -- each by itself; bit 11 asks of all others
 abbrev pub FreedWhen : Stm → Cause → Type 0
 FreedWhen stm Cause.Overspeed = 9 * stm .kept .speed < 250 * (vmaxIs stm + 5)
@@ -93,7 +100,7 @@ FreedWhen stm Cause.AimedStop = stm .brakes .since .aimed ≡ true
 FreedWhen stm Cause.UnexpectedStop = stm .brakes .since .unexpected ≡ true
 FreedWhen stm Cause.UnexpectedSpeed = 9 * stm .kept .speed < 250 * (vmaxIs stm + 5)
 FreedWhen stm Cause.Landslide = stm .brakes .since .landslide ≡ true
-FreedWhen stm Cause.BaliseFault = 9 * stm .kept .speed ≤ 250 * 80
+FreedWhen stm Cause.BaliseFault = UnheldWhen (stm .brakes .since .balise) (stm .kept .speed)
 FreedWhen stm Cause.Rolling = Unit {0}
 FreedWhen stm Cause.ServiceFault = Unit {0}
 

@@ -82,7 +82,7 @@ fortyBy which forty = cond (eqb which 1) true forty
 unfoldable pub stopped : ℕ → Stm → Stm
 stopped which stm =
     withBrakes (withTrack stm (withForty (stm .track) (fortyBy which (stm .track .forty))))
-    (brakesBy Code.StopPassed which (stm .brakes))
+    (brakesBy Code.StopPassed which (stm .kept .speed) (stm .brakes))
 
 -- ---- every command, with its operands
 
@@ -98,7 +98,7 @@ carriedOut Code.EndSection s stm = withTrack stm (withSections (stm .track) (end
 carriedOut Code.StopPassed s stm = stopped (byteAt s 0) stm
 -- "until a proceed signal"
 carriedOut Code.Proceed s stm = withTrack stm (withForty (stm .track) false)
-carriedOut Code.BaliseError s stm = withBrakes stm (brakesBy Code.BaliseError 0 (stm .brakes))
+carriedOut Code.BaliseError s stm = withBrakes stm (brakesBy Code.BaliseError 0 (stm .kept .speed) (stm .brakes))
 
 -- ---- what is remembered of it
 

@@ -15,12 +15,13 @@ use Rattle.rules.specs.History.{firstOperand, isIn, isSupervised, curveA
 use Rattle.rules.specs.declared.Code.{Code}
 use Rattle.rules.specs.declared.State.{State}
 use Rattle.rules.specs.declared.Cause.{Cause}
+use Rattle.rules.specs.declared.Hold.{Hold}
 use Rattle.rules.specs.declared.Check.{Check}
 use Rattle.rules.specs.declared.Roll.{Roll}
 use Rattle.rules.specs.declared.Brakes.{Brakes}
 use Rattle.rules.specs.declared.Stm.{Stm}
 
--- no curve, no section, no 40; no cause, nothing noted, no check begun, nothing rolled, no brake fault
+-- no curve, no section, no 40; no cause, nothing noted, no hold, no check begun, nothing rolled, no brake fault
 pub record HoldsNothing (stm : Stm) : Type 0 where
   pub curves : (place : ℕ) → curveAt place stm .held ≡ false
   pub sections : (place : ℕ) → sectionAt place stm .held ≡ false
@@ -29,6 +30,7 @@ pub record HoldsNothing (stm : Stm) : Type 0 where
   pub aimed : stm .brakes .since .aimed ≡ false
   pub unexpected : stm .brakes .since .unexpected ≡ false
   pub landslide : stm .brakes .since .landslide ≡ false
+  pub balise : stm .brakes .since .balise ≡ Hold.Undecided
   pub service : stm .brakes .service ≡ Check.Idle
   pub emergency : stm .brakes .emergency ≡ Check.Idle
   pub roll : stm .brakes .roll ≡ Roll.Ended

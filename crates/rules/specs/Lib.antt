@@ -2,6 +2,7 @@ pub mod Numbers
 pub mod Operands
 pub mod Places
 pub mod Speeds
+pub mod Hold
 pub mod Table
 pub mod Checks
 pub mod Releases
@@ -23,6 +24,7 @@ pub mod Braking
 pub mod Columns
 pub mod Timers
 pub mod Stops
+pub mod BaliseErrors
 pub mod Rolling
 pub mod Written
 pub mod Units

@@ -4,12 +4,15 @@ use mathlib.Core.Bool.{Bool, false, cond, not, _&&_, _||_}
 use lib.Dec.{eqb, ltb}
 use lib.IntN.{pos, _*ℤ_}
 use lib.Signed.{leZ}
+use Rattle.rules.specs.Numbers.{isCode}
+use Rattle.rules.specs.Hold.{decidedAt, heldOn}
 use Rattle.rules.specs.Table.{stands, noCauses, standsWith, anyStands, orderedAt, orderedBy, isStop, addedCauses, leftCauses}
 use Rattle.rules.specs.Checks.{checkedAt, failsAt, checkedBy, checkLeft}
 use Rattle.rules.specs.declared.Code.{Code}
 use Rattle.rules.specs.declared.Cause.{Cause}
 use Rattle.rules.specs.declared.Causes.{Causes}
 use Rattle.rules.specs.declared.Order.{Order}
+use Rattle.rules.specs.declared.Hold.{Hold}
 use Rattle.rules.specs.declared.Since.{Since}
 use Rattle.rules.specs.declared.Check.{Check}
 use Rattle.rules.specs.declared.Roll.{Roll}
@@ -22,7 +25,7 @@ use Rattle.rules.specs.declared.Seen.{Seen}
 unfoldable pub freshBrakes : Brakes
 freshBrakes = record {
   causes = noCauses;
-  since = record { aimed = false; unexpected = false; landslide = false };
+  since = record { aimed = false; unexpected = false; landslide = false; balise = Hold.Undecided };
   service = Check.Idle;
   emergency = Check.Idle;
   roll = Roll.Ended;
@@ -40,12 +43,13 @@ isHalt r = eqb (r .speed) 0 && eqb (r .moved) 0
 unfoldable pub isBraked : ℕ → Reading → Bool
 isBraked full r = leZ (pos (7 * full)) (pos 10 *ℤ (r .measured))
 
--- "halted since", "once since"
+-- "halted since", "once since"; 02, F-2: a "further odometer report"
 unfoldable pub sinceAt : ℕ → Reading → Since → Since
 sinceAt full r since = record {
   aimed = since .aimed || isHalt r;
   unexpected = since .unexpected || isBraked full r;
   landslide = since .landslide || isHalt r;
+  balise = heldOn (since .balise);
 }
 
 -- the ground rolled with neutral, kept up to 501
@@ -130,19 +134,20 @@ releasedBrakes s loss text b = leftBrakes (leftCauses s loss text (b .causes)) b
 
 -- ---- commands 30 and 32
 
--- "“since” starts again for those"
-unfoldable pub sinceBy : Code → ℕ → Since → Since
-sinceBy code which since = record {
+-- "“since” starts again for those"; 02, F-2: "A new error decides anew". v is the last odometer figure
+unfoldable pub sinceBy : Code → ℕ → ℕ → Since → Since
+sinceBy code which v since = record {
   aimed = since .aimed && not (isStop 0 code which);
   unexpected = since .unexpected && not (isStop 1 code which);
   landslide = since .landslide && not (isStop 2 code which);
+  balise = cond (isCode Code.BaliseError code) (decidedAt v) (since .balise);
 }
 
 -- "Commands 30 and 32 add their causes when accepted"
-unfoldable pub brakesBy : Code → ℕ → Brakes → Brakes
-brakesBy code which b = record {
+unfoldable pub brakesBy : Code → ℕ → ℕ → Brakes → Brakes
+brakesBy code which v b = record {
   causes = addedCauses (orderedBy code which) (b .causes);
-  since = sinceBy code which (b .since);
+  since = sinceBy code which v (b .since);
   service =
       checkedBy (anyStands (b .causes)) (anyStands (addedCauses (orderedBy code which) (b .causes))) (b .service);
   emergency =

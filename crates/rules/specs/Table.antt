@@ -5,6 +5,7 @@ use mathlib.Core.List.{List, [], _∷_}
 use lib.Dec.{eqb, leb, ltb}
 use Rattle.rules.specs.Numbers.{bitNumber, isCode, isOrder}
 use Rattle.rules.specs.Places.{anyOf, allOf}
+use Rattle.rules.specs.Hold.{isUnheld}
 use Rattle.rules.specs.declared.Code.{Code}
 use Rattle.rules.specs.declared.Cause.{Cause}
 use Rattle.rules.specs.declared.Causes.{Causes}
@@ -152,7 +153,8 @@ releasableWhen s others Cause.AimedStop = s .since .aimed
 releasableWhen s others Cause.UnexpectedStop = s .since .unexpected
 releasableWhen s others Cause.UnexpectedSpeed = isSlow s
 releasableWhen s others Cause.Landslide = s .since .landslide
-releasableWhen s others Cause.BaliseFault = leb (9 * s .speed) (250 * 80)
+-- 02, F-2
+releasableWhen s others Cause.BaliseFault = isUnheld (s .since .balise) (s .speed)
 releasableWhen s others Cause.Rolling = true
 releasableWhen s others Cause.ServiceFault = others
 

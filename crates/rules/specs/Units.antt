@@ -24,6 +24,7 @@ use Rattle.rules.specs.Commands.{freshStm}
 use Rattle.rules.specs.Runs.{Sent, stateAfter, stateAtEnd}
 use Rattle.rules.specs.declared.State.{State}
 use Rattle.rules.specs.declared.Order.{Order}
+use Rattle.rules.specs.declared.Hold.{Hold}
 use Rattle.rules.specs.declared.Check.{Check}
 use Rattle.rules.specs.declared.Roll.{Roll}
 use Rattle.rules.specs.declared.Section.{Section}
@@ -59,6 +60,12 @@ isCheckSound ordered limit Check.Idle = not ordered
 isCheckSound ordered limit (Check.Counting count) = ordered && ltb count limit
 isCheckSound ordered limit Check.Done = ordered
 
+-- 02, F-2: bit 9 stands only where an error has decided how it is held, and the further reports are kept up to 20
+abbrev pub isHoldSound : Bool → Hold → Bool
+isHoldSound stood Hold.Undecided = not stood
+isHoldSound stood Hold.High = true
+isHoldSound stood (Hold.Low count) = leb count 20
+
 -- the rolled ground is kept up to 501
 abbrev pub isRollSound : Roll → Bool
 isRollSound Roll.Ended = true
@@ -92,6 +99,7 @@ pub record IsUnit (stm : Stm) : Type 0 where
   pub service : isCheckSound (anyStands (stm .brakes .causes)) (stm .train .times .brake) (stm .brakes .service) ≡ true
   pub emergency :
       isCheckSound (standsWith Order.Emergency (stm .brakes .causes)) (stm .train .check) (stm .brakes .emergency) ≡ true
+  pub hold : isHoldSound (stm .brakes .causes .balise) (stm .brakes .since .balise) ≡ true
   pub roll : isRollSound (stm .brakes .roll) ≡ true
   -- a cause stands, and a brake fault is shown, only where brakes are ordered: in DA, and kept in FA
   pub braking :

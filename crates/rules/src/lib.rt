@@ -121,12 +121,21 @@ pub struct Causes {
     pub service: bool,
 }
 
-// What has been noted since the command that ordered bits 5, 6 and 8: a halt, a measured
-// deceleration, a halt.
+// How bit 9 is held (02, F-2): no balise error has decided it, or the last one did, at a speed above
+// 80 km/h, or at or below it; then with the number of further reports in DA, kept up to 20.
+pub enum Hold {
+    Undecided,
+    High,
+    Low(u8),
+}
+
+// What has been noted since the command that ordered bits 5, 6, 8 and 9: a halt, a measured
+// deceleration, a halt, the hold.
 pub struct Since {
     pub aimed: bool,
     pub unexpected: bool,
     pub landslide: bool,
+    pub balise: Hold,
 }
 
 // A brake check: no order to check, the count since the order began, or satisfied or judged.

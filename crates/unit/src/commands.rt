@@ -86,7 +86,7 @@ fn stop(which: u8, stm: Stm) -> Stm
     let track = stm.track;
     let brakes = stm.brakes;
     next.track = with_forty(track, (which == 1) | track.forty);
-    next.brakes = brakes_by(Code::StopPassed, which, brakes);
+    next.brakes = brakes_by(Code::StopPassed, which, stm.kept.speed, brakes);
     next
 }
 
@@ -123,7 +123,7 @@ pub fn accept(command: &[u8], s: &[u8], stm: Stm) -> Stm
             remember(command, next)
         }
         Code::BaliseError => {
-            next.brakes = brakes_by(Code::BaliseError, 0, brakes);
+            next.brakes = brakes_by(Code::BaliseError, 0, stm.kept.speed, brakes);
             remember(command, next)
         }
     }
