@@ -210,17 +210,18 @@ fn releasable(s: Seen, others: bool) -> Causes
 {
     let slow = is_slow(s);
     let clear = !s.d;
-    let hold = s.since.balise;
+    let since = s.since;
+    let hold = since.balise;
     Causes {
         overspeed: slow,
         excess: slow,
         full: clear,
         soft: clear,
         emergency: clear,
-        aimed: s.since.aimed,
-        unexpected: s.since.unexpected,
+        aimed: since.aimed,
+        unexpected: since.unexpected,
         speed: slow,
-        landslide: s.since.landslide,
+        landslide: since.landslide,
         balise: is_unheld(hold, s.speed),
         rolling: true,
         service: others,

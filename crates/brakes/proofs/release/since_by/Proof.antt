@@ -12,11 +12,14 @@ is-stop-requires-2 c κs = tt
 is-stop-requires-3 : tie.Need-is-stop-requires-3
 is-stop-requires-3 c κs = tt
 
+hold-by-requires : tie.Need-hold-by-requires
+hold-by-requires c κs = tt
+
 returns : tie.Need-returns
 unfolding sinceBy
 returns c =
-    let o = c .before .before .before in
-    rw (c .before .is-stop3 .ensures, o .is-stop2 .ensures, o .before .before .is-stop .ensures)
+    let o = c .before .before in
+    rw (c .hold-by .ensures, o .is-stop3 .ensures, o .before .before .is-stop2 .ensures, o .before .before .before .before .is-stop .ensures)
 
 pub since-by-spec : {M : Type 1} → statement M
-since-by-spec = tie.close (tie.spec is-stop-requires is-stop-requires-2 is-stop-requires-3 returns)
+since-by-spec = tie.close (tie.spec is-stop-requires is-stop-requires-2 is-stop-requires-3 hold-by-requires returns)
