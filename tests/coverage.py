@@ -334,14 +334,14 @@ class Coverage:
 
     def accepted(self, code, number, operands, raw, report, before):
         unit = self.unit
-        self.expect(unit.take(raw) == 0, "the picture accepts it")
-        self.see("a refused number accepted", code != 0x01 and number in self.refused_numbers)
-        self.refused_numbers.clear()
-        self.see("FFFFFFFF accepted", number == LAST and code != 0x01)
         self.see("CS while bit 9 is held", code == 0x02 and operands[0] == CS and self.is_held())
         self.see("a start while bit 9 is held", code == 0x01 and self.is_held())
         if code == 0x01 or code == 0x02 and operands[0] == CS:
             self.error = None
+        self.expect(unit.take(raw) == 0, "the picture accepts it")
+        self.see("a refused number accepted", code != 0x01 and number in self.refused_numbers)
+        self.refused_numbers.clear()
+        self.see("FFFFFFFF accepted", number == LAST and code != 0x01)
         if code == 0x01:
             self.afresh()
             self.see("start over curves, sections and causes",

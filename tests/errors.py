@@ -199,6 +199,14 @@ def dropped_by_state():
     pressing(19, 0)
     odometer(0)
     odometer(FAST, LOSS)
+    # LOSS held from before DA drops nothing
+    start()
+    odometer(FAST, LOSS)
+    state(3)
+    error()
+    odometer(LOW, LOSS)
+    odometer(LOW)
+    odometer(LOW, LOSS)
 
 
 def main():
