@@ -60,7 +60,7 @@ module _ (stm : Stm) (x : Sent) (e : isAccepted (answerTo stm x) ≡ true) where
       → isOf Code.BaliseError (x .command) ≡ false → after .since .balise ≡ holdIn stm
   unfolding brakesBy sinceBy
   hold-by after (unchanged none same) n = ap (λ b. b .since .balise) same
-  hold-by after (orders v same) n = ap (λ b. b .since .balise) same ∙ ap (λ t. cond t (decidedAt v) (holdIn stm)) n
+  hold-by after (orders v same) n = rw (same, n)
 
   -- and an error decides it, with bit 9
   module _ (c : isOf Code.BaliseError (x .command) ≡ true) where
