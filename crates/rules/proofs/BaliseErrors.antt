@@ -1,5 +1,5 @@
 -- Bit 9 over a list of commands: how it is held, and what goes by it. Assumes nothing.
-use mathlib.Core.Path.{_≡_, refl, sym, _∙_, ap, subst}
+use mathlib.Core.Path.{_≡_, refl, sym, _∙_, ap, ap₂, subst}
 use Prim.Native.Nat.{ℕ, zero, suc, _+_, _*_, _≤_, _<_, min}
 use native.Mathlib.Nat.{zero-add}
 use native.Mathlib.Omega.{arith}
@@ -17,16 +17,16 @@ use Rattle.rules.specs.Numbers.{codeOf, isState, isAccepted, bitNumber}
 use Rattle.rules.specs.Operands.{codeByte, readingOf, bitOf}
 use Rattle.rules.specs.Hold.{decidedAt, heldOn, isUnheld}
 use Rattle.rules.specs.Table.{stands, isReleasable}
-use Rattle.rules.specs.Releases.{sinceAt, notedBrakes, sinceBy, brakesBy}
+use Rattle.rules.specs.Releases.{freshBrakes, sinceAt, notedBrakes, sinceBy, brakesBy}
 use Rattle.rules.specs.Odometer.{seenWith, seenOf, seenIn, moves, measures, notes}
 use Rattle.rules.specs.Reports.{reportOf}
 use Rattle.rules.specs.Runs.{Sent, answerTo, stateAfter, stateAtEnd, noneAccepted, isOf, freshens}
 use Rattle.rules.specs.History.{Tells, speedOf, offeredIn, isIn, isSupervised, collected}
 use Rattle.rules.specs.Braking.{readingIn, measuredAt, seenAt, orderedNow, releasableNow, freshlyPressed}
-use Rattle.rules.specs.Columns.{UnheldWhen, FreedWhen, IsFree}
+use Rattle.rules.specs.Columns.{UnheldWhen, FreedWhen}
 use Rattle.rules.specs.BaliseErrors.{Reported, IsLow, IsHigh, reportsOver, BaliseStands, Presses, IsReleasable, StandsAlone}
 use Rattle.rules.specs.BaliseErrors.{LowErrorHolds, LowErrorEnds, HighErrorGoesBySpeed, ServiceFaultWaits, OfferFollowsError}
-use Rattle.rules.specs.BaliseErrors.{ReportsInDACount, HighErrorCountsNothing}
+use Rattle.rules.specs.BaliseErrors.{ReportsInDACount, NothingDecidedBefore, HighErrorCountsNothing}
 use Rattle.rules.specs.declared.Code.{Code}
 use Rattle.rules.specs.declared.State.{State}
 use Rattle.rules.specs.declared.Cause.{Cause}
@@ -36,8 +36,8 @@ use Rattle.rules.specs.declared.Stm.{Stm}
 use Rattle.rules.proofs.Answers.{after-other}
 use Rattle.rules.proofs.Tests.{impossible, both, and-both, neither, either}
 use Rattle.rules.proofs.Told.{code-is}
-use Rattle.rules.proofs.Ordering.{brakes-after, stands-added, since-after, since-seen, ByOther, unchanged, orders, brakes-by-other, ordered-and-released}
-use Rattle.rules.proofs.Standing.{isReleased, stays}
+use Rattle.rules.proofs.Ordering.{brakes-after, stands-added, since-after, since-seen, ByOther, unchanged, orders, brakes-by-other, ordered-and-released, fresh-brakes}
+use Rattle.rules.proofs.Standing.{kept-to-end, isReleased, stays}
 use Rattle.rules.proofs.Ground.{spared-first}
 use Rattle.rules.proofs.Checked.{fa-after, fa-else}
 use Rattle.rules.proofs.Columns.{releasable-at-report}
@@ -132,6 +132,31 @@ decided-high v high = rw (lt-leb (9 * v) (250 * 80) high)
 pub reports-in-da-count : ReportsInDACount
 reports-in-da-count stm xs count is h n =
     hold-over stm xs n ∙ ap (heldFor (reportsOver stm xs)) is ∙ low-for (reportsOver stm xs) count h
+
+-- before an error
+fresh-undecided : (stm : Stm) (x : Sent) → isAccepted (answerTo stm x) ≡ true → freshens (x .command) ≡ true
+    → holdIn (stateAfter stm x) ≡ Hold.Undecided
+unfolding freshBrakes
+fresh-undecided stm x e f = ap (λ b. b .since .balise) (brakes-after stm x e ∙ fresh-brakes stm (x .command) f)
+
+undecided-on : (t : Bool) → cond t (heldOn Hold.Undecided) Hold.Undecided ≡ Hold.Undecided
+undecided-on true = refl
+undecided-on false = refl
+
+undecided-once : (stm : Stm) (x : Sent) (fresh : Bool) → isAccepted (answerTo stm x) ≡ true → freshens (x .command) ≡ fresh
+    → isOf Code.BaliseError (x .command) ≡ false → holdIn stm ≡ Hold.Undecided → holdIn (stateAfter stm x) ≡ Hold.Undecided
+undecided-once stm x true e f n is = fresh-undecided stm x e f
+undecided-once stm x false e f n is =
+    let supervised = isSupervised stm (x .command) in
+    hold-once stm x true supervised e refl (λ _. ap₂ _||_ f n)
+    ∙ ap (λ hold. cond supervised (heldOn hold) hold) is
+    ∙ undecided-on supervised
+
+pub nothing-decided-before : NothingDecidedBefore
+nothing-decided-before stm xs is n =
+    let error : Stm → List ℕ → Bool = λ before command. isOf Code.BaliseError command in
+    kept-to-end (λ s. holdIn s ≡ Hold.Undecided) error error
+    (λ s x e m _ is. undecided-once s x (freshens (x .command)) e refl m is) stm xs n n is
 
 -- after an error
 module _ (stm : Stm) (x : Sent) (ys : List Sent) (r : Reported stm x ys) where
@@ -275,9 +300,12 @@ service-fault-waits stm x ys z r low h e u stood =
     let held = low-error-holds stm x ys r low fewer in
     let now = hold-report end z e u ∙ ap heldOn (low-last stm x ys r low) in
     stays end z Cause.ServiceFault e stood true u (no-fresh end z u) (λ _.
-    rw (not-true-false (releasableNow end (z .command) Cause.ServiceFault) (λ free.
-    let unheld = releasable-at-report end z Cause.ServiceFault e u .0 free .others refl Cause.BaliseFault (rw held) in
-    too-few n h (subst (λ hold. UnheldWhen hold (stateAfter end z .kept .speed)) now unheld)), and-false))
+    rw (
+      not-true-false (releasableNow end (z .command) Cause.ServiceFault) (λ free.
+          let unheld = releasable-at-report end z Cause.ServiceFault e u .0 free .others refl Cause.BaliseFault (rw held) in
+          too-few n h (subst (λ hold. UnheldWhen hold (stateAfter end z .kept .speed)) now unheld)),
+      and-false,
+    ))
   where
     too-few : (n : ℕ) → n + 1 < 20 → 20 ≤ min 20 (min 20 n + 1) → ⊥
     too-few n h k = omega (arith, h, k)

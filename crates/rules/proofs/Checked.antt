@@ -2,23 +2,18 @@
 use mathlib.Core.Path.{_≡_, refl, sym, _∙_, ap, ap₂}
 use Prim.Native.Nat.{ℕ}
 use mathlib.Core.Bool.{Bool, true, false, cond, not, _&&_, _||_, or-false, or-assoc, and-false, and-true}
-use mathlib.Core.Logic.{_⊎_, inl, inr}
-use mathlib.Core.List.{List}
 use borrow.Author.Tests.{not-false}
-use Rattle.wire.specs.Numbers.{byteAt}
-use Rattle.wire.specs.Form.{operandsOf}
 use Rattle.pressure.specs.Reference.{dropOf}
-use Rattle.rules.specs.Numbers.{codeOf, isState, isOrder, isAccepted}
-use Rattle.rules.specs.Operands.{codeByte}
+use Rattle.rules.specs.Numbers.{isState, isOrder, isAccepted}
 use Rattle.rules.specs.Places.{anyOf}
-use Rattle.rules.specs.Table.{causes, stands, strengthOf, standsWith, anyStands, addedCauses, leftCauses, orderedBy}
-use Rattle.rules.specs.Checks.{isDrop, begins, countedOn, failsNow, checkedAt, failsAt, checkedBy, checkLeft}
-use Rattle.rules.specs.Releases.{notedBrakes, serviceFails, emergencyFails, causesAt, addedBrakes, leftBrakes, releasedBrakes, brakesBy}
-use Rattle.rules.specs.Odometer.{withState, withBrakes, seenIn, moves, measures, notes, adds, isFresh}
+use Rattle.rules.specs.Table.{causes, stands, strengthOf, standsWith, anyStands}
+use Rattle.rules.specs.Checks.{isDrop, begins, checkedAt, checkedBy, checkLeft}
+use Rattle.rules.specs.Releases.{notedBrakes, serviceFails, emergencyFails, addedBrakes, leftBrakes, releasedBrakes, brakesBy}
+use Rattle.rules.specs.Odometer.{moves, measures, notes, adds}
 use Rattle.rules.specs.Commands.{remembered}
-use Rattle.rules.specs.Runs.{Sent, answerTo, stateAfter, isOf, freshens}
+use Rattle.rules.specs.Runs.{Sent, answerTo, stateAfter}
 use Rattle.rules.specs.History.{isIn, isReport, isSupervised}
-use Rattle.rules.specs.Braking.{readingIn, measuredAt, seenAt, orderedNow}
+use Rattle.rules.specs.Braking.{measuredAt, orderedNow}
 use Rattle.rules.specs.Timers.{isOrdered, isEmergency, hasDrop}
 use Rattle.rules.specs.declared.Code.{Code}
 use Rattle.rules.specs.declared.State.{State}
@@ -31,7 +26,7 @@ use Rattle.rules.specs.declared.Stm.{Stm}
 use Rattle.rules.proofs.Tests.{impossible, both, and-left, and-mono, any-mono}
 use Rattle.rules.proofs.After.{feedback-measured}
 use Rattle.rules.proofs.Told.{state-is}
-use Rattle.rules.proofs.Ordering.{addedAt, releasedAt, endedAt, ended, control-added, after-report, report-brakes, causes-added, ordered-and-released, ordered-in-failure, stands-for, stands-added, ByOther, unchanged, orders, brakes-by-other}
+use Rattle.rules.proofs.Ordering.{addedAt, releasedAt, endedAt, ended, control-added, after-report, report-brakes, causes-added, ordered-and-released, ordered-in-failure, stands-added, ByOther, unchanged, orders}
 
 -- ---- an order stands, as the promises say it
 

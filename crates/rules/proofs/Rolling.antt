@@ -1,32 +1,29 @@
 -- Rolling over a list of commands: the count is the ground of the reports since the last halt, or since a later drop of bit 10.
 -- Assumes nothing.
 use mathlib.Core.Path.{_≡_, refl, sym, _∙_, ap, ap₂}
-use Prim.Native.Nat.{ℕ, _+_, min, _≤_, _<_}
+use Prim.Native.Nat.{ℕ, _+_, min}
 use native.Mathlib.Omega.{arith}
 use native.Mathlib.Decide.{decLt}
-use mathlib.Core.Bool.{Bool, true, false, cond, not, _&&_, _||_, and-true, and-false, or-false, false≢true}
+use mathlib.Core.Bool.{Bool, true, false, cond, not, _&&_, _||_, and-false, or-false, false≢true}
 use mathlib.Core.Logic.{_⊎_, inl, inr}
 use mathlib.Core.List.{List, [], _∷_, map}
-use lib.Dec.{eqb, ltb}
-use borrow.Author.Tests.{ltb-true, lt-ltb, le-ltb, not-true}
-use Rattle.wire.specs.Numbers.{byteAt}
-use Rattle.wire.specs.Form.{operandsOf}
-use Rattle.rules.specs.Numbers.{codeOf, isCode, isState, isAccepted}
-use Rattle.rules.specs.Operands.{codeByte, readingOf}
+use lib.Dec.{ltb}
+use borrow.Author.Tests.{lt-ltb, le-ltb}
+use Rattle.rules.specs.Numbers.{isState, isAccepted}
+use Rattle.rules.specs.Operands.{readingOf}
 use Rattle.rules.specs.Places.{anyOf, allOf}
-use Rattle.rules.specs.Table.{stands, isReleasable, releasableWhen}
+use Rattle.rules.specs.Table.{stands, isReleasable}
 use Rattle.rules.specs.Releases.{freshBrakes, isHalt, rolledOn, rollAt, isRolled, rollBack, notedBrakes, addedBrakes, rollLeft, leftBrakes, brakesBy}
 use Rattle.rules.specs.Odometer.{seenWith, seenOf, seenIn, moves, measures, notes, adds}
 use Rattle.rules.specs.Runs.{Sent, answerTo, stateAfter, stateAtEnd, freshens, isOf, ordersCS}
 use Rattle.rules.specs.History.{movedOf, buttonOf, isIn, isReport, isSupervised, isHaltOf, sum}
-use Rattle.rules.specs.Braking.{readingIn, measuredAt, seenAt, orderedNow, releasableNow, freshlyPressed}
+use Rattle.rules.specs.Braking.{measuredAt, seenAt, orderedNow, releasableNow}
 use Rattle.rules.specs.Rolling.{Rolls, rollsOf, dropsRolling, rollsAfter, rollsOver, sinceLast, sinceHalt, isOver500, RollingIsOrdered}
 use Rattle.rules.specs.declared.Code.{Code}
 use Rattle.rules.specs.declared.State.{State}
 use Rattle.rules.specs.declared.Cause.{Cause}
 use Rattle.rules.specs.declared.Roll.{Roll}
 use Rattle.rules.specs.declared.Brakes.{Brakes}
-use Rattle.rules.specs.declared.Reading.{Reading}
 use Rattle.rules.specs.declared.Stm.{Stm}
 use Rattle.rules.proofs.Answers.{after-other, passed}
 use Rattle.rules.proofs.Tests.{impossible, both, or-left}

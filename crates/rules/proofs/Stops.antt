@@ -1,7 +1,7 @@
 -- Bits 5, 6 and 8 over a list: one law over the cause, its note and the reports that free it. Assumes nothing.
 use mathlib.Core.Path.{_≡_, refl, sym, _∙_, ap, ap₂, subst}
 use Prim.Native.Nat.{ℕ}
-use mathlib.Core.Bool.{Bool, true, false, cond, not, _&&_, _||_, false≢true, or-true, or-false, and-false, and-true}
+use mathlib.Core.Bool.{Bool, true, false, not, _&&_, _||_, false≢true, or-true, or-false, and-false, and-true}
 use mathlib.Core.Logic.{inl, inr}
 use mathlib.Core.List.{List, [], _∷_}
 use lib.Dec.{eqb}
@@ -10,7 +10,7 @@ use borrow.Author.Tests.{eqb-true, eq-eqb}
 use Rattle.laws.proofs.Lists.{not-true-false}
 use Rattle.wire.specs.Numbers.{byteAt}
 use Rattle.wire.specs.Form.{operandsOf}
-use Rattle.rules.specs.Numbers.{codeOf, isState, isAccepted, bitNumber}
+use Rattle.rules.specs.Numbers.{codeOf, isAccepted, bitNumber}
 use Rattle.rules.specs.Operands.{codeByte, readingOf, bitOf}
 use Rattle.rules.specs.Table.{causes, stands, orderedBy, isStop, isReleasable, releasableWhen}
 use Rattle.rules.specs.Releases.{isHalt, isBraked, sinceAt, sinceBy, brakesBy}
@@ -19,7 +19,7 @@ use Rattle.rules.specs.Commands.{stopped}
 use Rattle.rules.specs.Runs.{Sent, answerTo, stateAfter, stateAtEnd, noneAccepted, isOf, freshens}
 use Rattle.rules.specs.History.{firstOperand, isIn, isSupervised, isHalting, isBraking, passesStop, offeredIn}
 use Rattle.rules.specs.Braking.{readingIn, seenAt, releasableNow}
-use Rattle.rules.specs.Columns.{FreedWhen, IsFree}
+use Rattle.rules.specs.Columns.{FreedWhen}
 use Rattle.rules.specs.Stops.{FreedSince, AimedStopWantsHalt, UnexpectedStopWantsBraking, LandslideWantsHalt}
 use Rattle.rules.specs.declared.Code.{Code}
 use Rattle.rules.specs.declared.State.{State}
@@ -30,9 +30,9 @@ use Rattle.rules.specs.declared.Seen.{Seen}
 use Rattle.rules.specs.declared.Reading.{Reading}
 use Rattle.rules.specs.declared.Stm.{Stm}
 use Rattle.rules.proofs.Answers.{after-other}
-use Rattle.rules.proofs.Tests.{impossible, both, neither, either, second-fails}
+use Rattle.rules.proofs.Tests.{both, neither, either}
 use Rattle.rules.proofs.Told.{code-is}
-use Rattle.rules.proofs.Ordering.{brakes-after, stands-added, since-after, since-seen, ByOther, unchanged, orders, brakes-by-other, others-drop-nothing}
+use Rattle.rules.proofs.Ordering.{brakes-after, stands-added, since-after, since-seen, ByOther, unchanged, orders, brakes-by-other}
 use Rattle.rules.proofs.Standing.{kept-to-end, isReleased, stays}
 use Rattle.rules.proofs.Ground.{spared-first}
 use Rattle.rules.proofs.Written.{report-kept, offered-in-da, offered-outside, report-at-end}

@@ -4,24 +4,23 @@ use Prim.Native.Nat.{ℕ, suc, _+_, _≤_, _<_}
 use native.Mathlib.Omega.{arith}
 use native.Mathlib.Nat.{add-zero, zero-add}
 use native.Mathlib.Decide.{decLe}
-use mathlib.Core.Bool.{Bool, true, false, cond, not, _&&_, _||_, or-false, or-true, and-false, and-true, and-comm, false≢true}
+use mathlib.Core.Bool.{Bool, true, false, cond, not, _&&_, _||_, or-false, or-true, and-false, and-comm, false≢true}
 use mathlib.Core.List.{List, [], _∷_}
-use lib.Dec.{eqb, leb}
+use lib.Dec.{eqb}
 use lib.ListN.{length}
-use borrow.Author.Tests.{le-leb, lt-leb, ne-eqb, eq-eqb, leb-true}
+use borrow.Author.Tests.{le-leb, lt-leb, ne-eqb}
 use Rattle.wire.specs.Numbers.{byteAt}
-use Rattle.rules.specs.Numbers.{codeOf, isState, isAccepted}
+use Rattle.rules.specs.Numbers.{codeOf, isAccepted}
 use Rattle.rules.specs.Operands.{codeByte}
 use Rattle.rules.specs.Places.{anyOf}
-use Rattle.rules.specs.Table.{stands, noCauses, anyStands, standsWith, orderedAt}
+use Rattle.rules.specs.Table.{stands, noCauses, anyStands, standsWith}
 use Rattle.rules.specs.Checks.{isDrop, begins, countedOn, failsNow, checkedAt, failsAt, checkedBy}
 use Rattle.rules.specs.Releases.{freshBrakes, serviceFails, emergencyFails, brakesBy}
 use Rattle.rules.specs.Runs.{Sent, answerTo, stateAfter, stateAtEnd, isOf, ordersCS, freshens}
-use Rattle.rules.specs.History.{isIn, isSupervised, collected, standsThrough}
+use Rattle.rules.specs.History.{isSupervised, collected, standsThrough}
 use Rattle.rules.specs.Braking.{measuredAt, orderedNow}
-use Rattle.rules.specs.Timers.{isOrdered, isEmergency, hasDrop, dropsOver, OrderStands, failsWith, ServiceFaultAtLimit, EmergencyFaultAtLimit, NoFaultWithoutOrder, DriftIsShown, FaultsStay}
+use Rattle.rules.specs.Timers.{isOrdered, isEmergency, hasDrop, dropsOver, failsWith, ServiceFaultAtLimit, EmergencyFaultAtLimit, NoFaultWithoutOrder, DriftIsShown, FaultsStay}
 use Rattle.rules.specs.declared.Code.{Code}
-use Rattle.rules.specs.declared.State.{State}
 use Rattle.rules.specs.declared.Cause.{Cause}
 use Rattle.rules.specs.declared.Causes.{Causes}
 use Rattle.rules.specs.declared.Check.{Check}
@@ -32,7 +31,7 @@ use Rattle.rules.specs.declared.Stm.{Stm}
 use Rattle.rules.proofs.Answers.{after-other}
 use Rattle.laws.proofs.Lists.{not-true-false}
 use Rattle.wire.specs.Form.{operandsOf}
-use Rattle.rules.proofs.Tests.{impossible, both, neither}
+use Rattle.rules.proofs.Tests.{both, neither}
 use Rattle.rules.proofs.Ordering.{brakes-after, addedAt, fresh-brakes, ByOther, unchanged, orders, brakes-by-other}
 use Rattle.rules.proofs.Readings.{train-once}
 use Rattle.rules.proofs.Checked.{ordered-is, emergency-is, drop-is, failed-after, fa-after, drift-in-da, drift-in-fa, service-after, emergency-after, added-stands, added-emergency-stands, other-check}

@@ -123,6 +123,14 @@ ReportsInDACount =
     → noneAccepted (λ before command. freshens command || isOf Code.BaliseError command) stm xs ≡ true
     → stateAtEnd stm xs .brakes .since .balise ≡ Hold.Low (min 20 (count + reportsOver stm xs))
 
+-- where no error has decided yet (after a start and after CS: see Fresh), none is decided before one comes
+abbrev pub NothingDecidedBefore : Type 0
+NothingDecidedBefore =
+    (stm : Stm) (xs : List Sent)
+    → stm .brakes .since .balise ≡ Hold.Undecided
+    → noneAccepted (λ before command. isOf Code.BaliseError command) stm xs ≡ true
+    → stateAtEnd stm xs .brakes .since .balise ≡ Hold.Undecided
+
 -- after an error at high speed nothing is counted
 abbrev pub HighErrorCountsNothing : Type 0
 HighErrorCountsNothing =

@@ -2,8 +2,6 @@
 use mathlib.Core.Path.{_≡_}
 use Prim.Native.Nat.{ℕ}
 use mathlib.Core.Bool.{true, false, _&&_, _||_}
-use mathlib.Core.List.{List}
-use lib.Dec.{eqb}
 use Rattle.wire.specs.Form.{operandsOf}
 use Rattle.pressure.specs.Convert.{kPa}
 use Rattle.pressure.specs.declared.Phase.{Phase}
@@ -18,7 +16,6 @@ use Rattle.rules.specs.declared.Cause.{Cause}
 use Rattle.rules.specs.declared.Hold.{Hold}
 use Rattle.rules.specs.declared.Check.{Check}
 use Rattle.rules.specs.declared.Roll.{Roll}
-use Rattle.rules.specs.declared.Brakes.{Brakes}
 use Rattle.rules.specs.declared.Stm.{Stm}
 
 -- no curve, no section, no 40; no cause, nothing noted, no hold, no check begun, nothing rolled, no brake fault

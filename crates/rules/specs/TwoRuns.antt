@@ -65,6 +65,7 @@ pub record Compared (u w : Stm) : Type 0 where
   pub control : w .control ≡ u .control
   pub train : TrainsCompared (u .train) (w .train)
   pub track : TracksCompared (u .track) (w .track)
+  -- causes, notes and checks; 02, F-2: bit 9 is held alike
   pub brakes : w .brakes ≡ u .brakes
   pub feedback : w .feedback ≡ u .feedback
   pub kept : w .kept ≡ u .kept
