@@ -156,7 +156,7 @@ def claims():
         "high: up to 80 km/h it is offered before the 20th", "high: fresh LOSS up to 80 km/h drops it before the 20th",
         "low, then high", "high, then low", "low, then low before the 20th, dropped at the 20th of the second",
         "an offer taken back by an error at low speed", "an offer taken back by an error at high speed",
-        "a repeat in between", "a refused report in between", "an error again, and refused",
+        "a second error begins no check", "a repeat in between", "a refused report in between", "an error again, and refused",
         "bit 0 dropped while bit 9 is held", "bit 11 not dropped while bit 9 is held", "bits 9 and 11 dropped together at the 20th",
         "FA at a fresh LOSS that would drop bit 9", "CS while bit 9 is held", "a start while bit 9 is held"]
     yield "Figures", [
@@ -485,6 +485,8 @@ class Coverage:
         if report[0] == FA:
             self.see("FA at a fresh LOSS that would drop bit 9", fresh and free)
             return
+        if before.causes == 1 << 9 and report[2] & 8:
+            self.see("a second error begins no check", count < self.unit.train["t_b"])
         stands = report[2] >> 1 & 1
         self.expect(stands == (not (fresh and free)), "bit 9 goes by its hold")
         alone = report[2:4] == b"\x02\x00"

@@ -167,6 +167,13 @@ def other_causes():
     error()
     odometers(19, 0)
     odometer(FAST, LOSS)
+    # a second error begins no check: bit 11 at the 5th report since the first, and gone with bit 9 at the 20th since the second
+    odometer(LOW)
+    error()
+    odometers(3, LOW)
+    error()
+    odometers(19, LOW)
+    odometer(LOW, LOSS)
     # FA at a fresh LOSS that would drop bit 9
     in_da(t_b=100, t_ebchk=2)
     odometer(0)

@@ -314,6 +314,9 @@ errorCases =
     ∷ after (halts ∷ []) (causesAre (9 ∷ 11 ∷ []) ∷ [])
     -- a second cause begins nothing
     ∷ after (stop 2 ∷ halts ∷ []) (causesAre (8 ∷ 9 ∷ 11 ∷ []) ∷ [])
+    -- nor does a second error, at rest; bit 9 is held then, and bit 11 with it
+    ∷ after (baliseError ∷ halts ∷ []) (causesAre (9 ∷ 11 ∷ []) ∷ offered 0 ∷ [])
+    ∷ after (baliseError ∷ halts ∷ atSpeed 0 loss ∷ []) (causesAre (9 ∷ 11 ∷ []) ∷ [])
     -- bit 6 is not releasable: 7 and 9 go, 11 stays
     ∷ after (halts ∷ stop 1 ∷ atSpeed 0 loss ∷ []) (causesAre (6 ∷ 11 ∷ []) ∷ messages 1 ∷ [])
     -- bit 11 is ordered and dropped in one report; an order that begins anew is checked anew
