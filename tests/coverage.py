@@ -500,7 +500,7 @@ class Coverage:
             self.see("low: fresh LOSS later above 80 km/h drops it", count > 20 and fresh and above)
             self.see("low: fresh LOSS later at rest drops it", count > 20 and fresh and v == 0)
             self.see("low, then low before the 20th, dropped at the 20th of the second",
-                     self.error_before and count >= 20 and fresh)
+                     self.error_before and count == 20 and fresh)
             if count < 20:
                 self.see("bit 0 dropped while bit 9 is held", before.causes & 1 and not report[3] & 1)
                 self.see("bit 11 not dropped while bit 9 is held", fresh and before.causes >> 11 & 1 and report[2] & 8)

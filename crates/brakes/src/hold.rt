@@ -1,9 +1,6 @@
 // How bit 9 is held after a balise error.
 ghost use mathlib.Core.Path.{_≡_};
-ghost use mathlib.Core.Bool.{cond};
-ghost use Rattle.rules.specs.declared.Code.{Code};
-ghost use Rattle.rules.specs.Numbers.{isCode};
-ghost use Rattle.rules.specs.Hold.{isUpTo80, decidedAt, heldOn, isUnheld};
+ghost use Rattle.rules.specs.Hold.{isUpTo80, decidedAt, heldOn, isUnheld, holdBy};
 use encoding::numbers::is_code;
 use rules::Code;
 use rules::Hold;
@@ -27,7 +24,7 @@ fn decided_at(v: u16) -> Hold
 
 // After a command that adds causes, with the last odometer figure.
 pub fn hold_by(code: Code, v: u16, hold: Hold) -> Hold
-    ensures { λ r. ⌜ r ≡ cond (isCode Code.BaliseError code) (decidedAt v) hold ⌝ }
+    ensures { λ r. ⌜ r ≡ holdBy code v hold ⌝ }
 {
     if is_code(Code::BaliseError, code) {
         decided_at(v)

@@ -23,8 +23,8 @@ use Rattle.rules.specs.Reports.{reportOf}
 use Rattle.rules.specs.Runs.{Sent, answerTo, stateAfter, stateAtEnd, noneAccepted, isOf, freshens}
 use Rattle.rules.specs.History.{Tells, speedOf, offeredIn, isIn, isSupervised, collected}
 use Rattle.rules.specs.Braking.{readingIn, measuredAt, seenAt, orderedNow, releasableNow, freshlyPressed}
-use Rattle.rules.specs.Columns.{UnheldWhen, FreedWhen}
-use Rattle.rules.specs.BaliseErrors.{Reported, IsLow, IsHigh, reportsOver, BaliseStands, Presses, IsReleasable, StandsAlone}
+use Rattle.rules.specs.Columns.{IsLow, UnheldWhen, FreedWhen}
+use Rattle.rules.specs.BaliseErrors.{resetsHold, Reported, IsHigh, reportsOver, BaliseStands, Presses, HoldEnded, StandsAlone}
 use Rattle.rules.specs.BaliseErrors.{LowErrorHolds, LowErrorEnds, HighErrorGoesBySpeed, ServiceFaultWaits, OfferFollowsError}
 use Rattle.rules.specs.BaliseErrors.{ReportsInDACount, NothingDecidedBefore, HighErrorCountsNothing}
 use Rattle.rules.specs.declared.Code.{Code}
@@ -62,7 +62,7 @@ module _ (stm : Stm) (x : Sent) (e : isAccepted (answerTo stm x) ≡ true) where
   hold-by after (unchanged none same) n = ap (λ b. b .since .balise) same
   hold-by after (orders v same) n = rw (same, n)
 
-  -- and an error decides it, with bit 9
+  -- and an error resetsHold it, with bit 9
   module _ (c : isOf Code.BaliseError (x .command) ≡ true) where
     error-brakes : stateAfter stm x .brakes ≡ brakesBy Code.BaliseError 0 (stm .kept .speed) (stm .brakes)
     error-brakes = rw (brakes-after stm x e, code-is Code.BaliseError (codeOf (codeByte (x .command))) c)
@@ -77,11 +77,8 @@ module _ (stm : Stm) (x : Sent) (e : isAccepted (answerTo stm x) ≡ true) where
 
 -- ---- the hold over a list
 
-abbrev decides : Stm → List ℕ → Bool
-decides before command = freshens command || isOf Code.BaliseError command
-
 hold-once : (stm : Stm) (x : Sent) (accepted supervised : Bool) → isAccepted (answerTo stm x) ≡ accepted
-    → isSupervised stm (x .command) ≡ supervised → (accepted ≡ true → decides stm (x .command) ≡ false)
+    → isSupervised stm (x .command) ≡ supervised → (accepted ≡ true → resetsHold stm (x .command) ≡ false)
     → holdIn (stateAfter stm x) ≡ cond (accepted && supervised) (heldOn (holdIn stm)) (holdIn stm)
 hold-once stm x true true e u n = hold-report stm x e u
 hold-once stm x true false e u n =
@@ -100,14 +97,14 @@ held-more : (t : Bool) (hold : Hold) (x : Sent) (xs : List Sent)
 held-more true hold x xs = refl
 held-more false hold x xs = refl
 
-hold-over : (stm : Stm) (xs : List Sent) → noneAccepted decides stm xs ≡ true
+hold-over : (stm : Stm) (xs : List Sent) → noneAccepted resetsHold stm xs ≡ true
     → holdIn (stateAtEnd stm xs) ≡ heldFor (reportsOver stm xs) (holdIn stm)
 unfolding stateAtEnd collected
 hold-over stm [] n = refl
 hold-over stm (x ∷ xs) n =
     let accepted = isAccepted (answerTo stm x) in
     let supervised = isSupervised stm (x .command) in
-    let t = spared-first decides stm x xs n in
+    let t = spared-first resetsHold stm x xs n in
     hold-over (stateAfter stm x) xs (t .1)
     ∙ ap (heldFor (reportsOver (stateAfter stm x) xs)) (hold-once stm x accepted supervised refl refl (t .0))
     ∙ held-more (accepted && supervised) (holdIn stm) x (collected isSupervised (λ before y. y) (stateAfter stm x) xs)
@@ -198,48 +195,48 @@ unreleased stm command count is h =
 -- ---- until then it stands
 
 -- it stands with the hold at a count that further reports do not bring to 20
-pub record Holds20 (stm : Stm) (further : ℕ) : Type 0 where
-  pub stood : BaliseStands stm
-  pub count : ℕ
-  pub is : holdIn stm ≡ Hold.Low count
-  pub room : count + further < 20
+record StillHeld (stm : Stm) (further : ℕ) : Type 0 where
+  stood : BaliseStands stm
+  count : ℕ
+  is : holdIn stm ≡ Hold.Low count
+  room : count + further < 20
 
-holds-once : (stm : Stm) (x : Sent) (xs : List Sent) (accepted supervised : Bool) → isAccepted (answerTo stm x) ≡ accepted
-    → isSupervised stm (x .command) ≡ supervised → (accepted ≡ true → decides stm (x .command) ≡ false)
-    → Holds20 stm (length (cond (accepted && supervised) (x ∷ xs) xs)) → Holds20 (stateAfter stm x) (length xs)
-holds-once stm x xs true true e u n h =
+still-once : (stm : Stm) (x : Sent) (xs : List Sent) (accepted supervised : Bool) → isAccepted (answerTo stm x) ≡ accepted
+    → isSupervised stm (x .command) ≡ supervised → (accepted ≡ true → resetsHold stm (x .command) ≡ false)
+    → StillHeld stm (length (cond (accepted && supervised) (x ∷ xs) xs)) → StillHeld (stateAfter stm x) (length xs)
+still-once stm x xs true true e u n h =
     let room : h .count + 1 < 20 = omega (arith, h .room) in
     let same : min 20 (h .count + 1) ≡ h .count + 1 = omega (arith, h .room) in
     let fresh = neither (freshens (x .command)) (isOf Code.BaliseError (x .command)) (n refl) .0 in
     record {
       stood = stays stm x Cause.BaliseFault e (h .stood) true u fresh (λ _. unreleased stm (x .command) (h .count) (h .is) room);
       count = h .count + 1;
-      is = hold-report stm x e u ∙ ap heldOn (h .is) ∙ ap Hold.Low same;
+      is = hold-once stm x true true e u n ∙ ap heldOn (h .is) ∙ ap Hold.Low same;
       room = omega (arith, h .room);
     }
-holds-once stm x xs true false e u n h =
-    let t = neither (freshens (x .command)) (isOf Code.BaliseError (x .command)) (n refl) in
+still-once stm x xs true false e u n h =
+    let fresh = neither (freshens (x .command)) (isOf Code.BaliseError (x .command)) (n refl) .0 in
     record {
-      stood = stays stm x Cause.BaliseFault e (h .stood) false u (t .0) (λ s. impossible (sym u ∙ s));
+      stood = stays stm x Cause.BaliseFault e (h .stood) false u fresh (λ s. impossible (sym u ∙ s));
       count = h .count;
-      is = hold-by stm x e (stateAfter stm x .brakes) (brakes-by-other stm x e u (t .0)) (t .1) ∙ h .is;
+      is = hold-once stm x true false e u n ∙ h .is;
       room = h .room;
     }
-holds-once stm x xs false supervised e u n h = subst (λ s. Holds20 s (length xs)) (sym (after-other stm x e)) h
+still-once stm x xs false supervised e u n h = subst (λ s. StillHeld s (length xs)) (sym (after-other stm x e)) h
 
-holds-over : (stm : Stm) (xs : List Sent) → noneAccepted decides stm xs ≡ true → Holds20 stm (reportsOver stm xs)
+still-over : (stm : Stm) (xs : List Sent) → noneAccepted resetsHold stm xs ≡ true → StillHeld stm (reportsOver stm xs)
     → BaliseStands (stateAtEnd stm xs)
 unfolding stateAtEnd collected
-holds-over stm [] n h = h .stood
-holds-over stm (x ∷ xs) n h =
-    let t = spared-first decides stm x xs n in
-    holds-over (stateAfter stm x) xs (t .1)
-    (holds-once stm x (collected isSupervised (λ before y. y) (stateAfter stm x) xs) (isAccepted (answerTo stm x))
+still-over stm [] n h = h .stood
+still-over stm (x ∷ xs) n h =
+    let t = spared-first resetsHold stm x xs n in
+    still-over (stateAfter stm x) xs (t .1)
+    (still-once stm x (collected isSupervised (λ before y. y) (stateAfter stm x) xs) (isAccepted (answerTo stm x))
     (isSupervised stm (x .command)) refl refl (t .0) h)
 
 pub low-error-holds : LowErrorHolds
 low-error-holds stm x ys r low h =
-    holds-over (stateAfter stm x) ys (r .last) (record {
+    still-over (stateAfter stm x) ys (r .last) (record {
       stood = stands-error stm x (r .accepted) (r .error);
       count = 0;
       is = hold-error stm x (r .accepted) (r .error) ∙ decided-low (stm .kept .speed) low;
@@ -314,7 +311,7 @@ service-fault-waits stm x ys z r low h e u stood =
 
 -- the hold has ended, as the promise says it
 unheld-told : (v n w : ℕ)
-    → (UnheldWhen (heldFor n (decidedAt v)) w → IsReleasable v n w) × (IsReleasable v n w → UnheldWhen (heldFor n (decidedAt v)) w)
+    → (UnheldWhen (heldFor n (decidedAt v)) w → HoldEnded v n w) × (HoldEnded v n w → UnheldWhen (heldFor n (decidedAt v)) w)
 unheld-told v n w =
     elim (decLe (9 * v) (250 * 80)) [
       | yes low ↦
@@ -334,7 +331,7 @@ module _ (stm : Stm) (x : Sent) (ys : List Sent) (r : Reported stm x ys) where
   end = stateAtEnd (stateAfter stm x) ys
 
   abbrev Free : Type 0
-  Free = IsReleasable (stm .kept .speed) (reportsOver (stateAfter stm x) ys) (end .kept .speed)
+  Free = HoldEnded (stm .kept .speed) (reportsOver (stateAfter stm x) ys) (end .kept .speed)
 
   kept-report : end .last .report ≡ reportOf end
   kept-report = report-at-end (stateAfter stm x) ys (report-kept stm x (r .accepted))

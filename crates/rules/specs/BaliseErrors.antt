@@ -1,7 +1,7 @@
 -- Bit 9 over runs (02, F-2, "Holding after a balise error at low speed"; 01, "Causes and release"). Proved in proofs/.
 use mathlib.Core.Path.{_≡_}
 use Prim.Native.Nat.{ℕ, _+_, _*_, _≤_, _<_, min}
-use mathlib.Core.Bool.{true, false, _||_}
+use mathlib.Core.Bool.{Bool, true, false, _||_}
 use mathlib.Core.List.{List}
 use lib.Dec.{eqb}
 use lib.ListN.{length}
@@ -10,6 +10,7 @@ use Rattle.rules.specs.Operands.{bitOf}
 use Rattle.rules.specs.Table.{stands}
 use Rattle.rules.specs.Runs.{Sent, answerTo, stateAfter, stateAtEnd, noneAccepted, isOf, freshens}
 use Rattle.rules.specs.History.{Tells, speedOf, buttonOf, offeredIn, isIn, isSupervised, collected}
+use Rattle.rules.specs.Columns.{IsLow}
 use Rattle.rules.specs.declared.Code.{Code}
 use Rattle.rules.specs.declared.State.{State}
 use Rattle.rules.specs.declared.Cause.{Cause}
@@ -18,16 +19,18 @@ use Rattle.rules.specs.declared.Stm.{Stm}
 
 -- ---- an error, and what follows it
 
+-- a start and CS drop how bit 9 is held, and 32 decides it anew
+abbrev pub resetsHold : Stm → List ℕ → Bool
+resetsHold before command = freshens command || isOf Code.BaliseError command
+
 -- 32 is accepted at x, and no further 32, no start and no CS over ys
 pub record Reported (stm : Stm) (x : Sent) (ys : List Sent) : Type 0 where
   pub accepted : isAccepted (answerTo stm x) ≡ true
   pub error : isOf Code.BaliseError (x .command) ≡ true
-  pub last : noneAccepted (λ before command. freshens command || isOf Code.BaliseError command) (stateAfter stm x) ys ≡ true
+  pub last : noneAccepted resetsHold (stateAfter stm x) ys ≡ true
 
--- "v was at or below 80 km/h when the error was reported": at the last odometer figure, which the unit that 32 finds keeps; v was above
-abbrev pub IsLow : ℕ → Type 0
-IsLow v = 9 * v ≤ 250 * 80
-
+-- "v was at or below 80 km/h when the error was reported": the last odometer figure, which the unit that 32 finds keeps, is low; "v was
+-- above": it is high
 abbrev pub IsHigh : ℕ → Type 0
 IsHigh v = 250 * 80 < 9 * v
 
@@ -91,7 +94,7 @@ ServiceFaultWaits =
     → stands (stateAfter last z .brakes .causes) Cause.ServiceFault ≡ true
 
 -- bit 9 is releasable, by the speed v at the error, the number of further reports and the last speed w
-pub record IsReleasable (v reports w : ℕ) : Type 0 where
+pub record HoldEnded (v reports w : ℕ) : Type 0 where
   pub low : IsLow v → 20 ≤ reports
   pub high : IsHigh v → IsLow w
 
@@ -108,7 +111,7 @@ OfferFollowsError =
     (stm : Stm) (x : Sent) (ys : List Sent)
     → Reported stm x ys
     → let last = stateAtEnd (stateAfter stm x) ys in
-    let free = IsReleasable (stm .kept .speed) (reportsOver (stateAfter stm x) ys) (last .kept .speed) in
+    let free = HoldEnded (stm .kept .speed) (reportsOver (stateAfter stm x) ys) (last .kept .speed) in
     (isIn State.DA last ≡ true → BaliseStands last → free → bitOf 0 (offeredIn (last .last .report)) ≡ true)
     × (StandsAlone last → bitOf 0 (offeredIn (last .last .report)) ≡ true → free)
 
@@ -120,7 +123,7 @@ abbrev pub ReportsInDACount : Type 0
 ReportsInDACount =
     (stm : Stm) (xs : List Sent) (count : ℕ)
     → stm .brakes .since .balise ≡ Hold.Low count → count ≤ 20
-    → noneAccepted (λ before command. freshens command || isOf Code.BaliseError command) stm xs ≡ true
+    → noneAccepted resetsHold stm xs ≡ true
     → stateAtEnd stm xs .brakes .since .balise ≡ Hold.Low (min 20 (count + reportsOver stm xs))
 
 -- where no error has decided yet (after a start and after CS: see Fresh), none is decided before one comes

@@ -83,10 +83,14 @@ OrderedByCommand =
 
 -- ---- "Releasable when"
 
--- 02, F-2: 20 further reports are counted, or "the old rule stands", "v ≤ 80 km/h"; over runs: see BaliseErrors
+-- "v ≤ 80 km/h"
+abbrev pub IsLow : ℕ → Type 0
+IsLow v = 9 * v ≤ 250 * 80
+
+-- 02, F-2: 20 further reports are counted, or "the old rule stands"; over runs: see BaliseErrors
 abbrev pub UnheldWhen : Hold → ℕ → Type 0
-UnheldWhen Hold.Undecided v = 9 * v ≤ 250 * 80
-UnheldWhen Hold.High v = 9 * v ≤ 250 * 80
+UnheldWhen Hold.Undecided v = IsLow v
+UnheldWhen Hold.High v = IsLow v
 UnheldWhen (Hold.Low count) v = 20 ≤ count
 
 -- each by itself; bit 11 asks of all others

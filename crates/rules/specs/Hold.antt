@@ -2,13 +2,15 @@
 use Prim.Native.Nat.{ℕ, _+_, _*_, min}
 use mathlib.Core.Bool.{Bool, cond}
 use lib.Dec.{leb}
+use Rattle.rules.specs.Numbers.{isCode}
+use Rattle.rules.specs.declared.Code.{Code}
 use Rattle.rules.specs.declared.Hold.{Hold}
 
 -- "v was at or below 80 km/h"; 01, bit 9: "v ≤ 80 km/h"
 abbrev pub isUpTo80 : ℕ → Bool
 isUpTo80 v = leb (9 * v) (250 * 80)
 
--- "when the error was reported", by the last odometer figure; "A new error decides anew and counts afresh"
+-- "when the error was reported"
 abbrev pub decidedAt : ℕ → Hold
 decidedAt v = cond (isUpTo80 v) (Hold.Low 0) Hold.High
 
@@ -23,3 +25,7 @@ abbrev pub isUnheld : Hold → ℕ → Bool
 isUnheld Hold.Undecided v = isUpTo80 v
 isUnheld Hold.High v = isUpTo80 v
 isUnheld (Hold.Low count) v = leb 20 count
+
+-- "A new error decides anew and counts afresh", and no other command does; v is the last odometer figure
+abbrev pub holdBy : Code → ℕ → Hold → Hold
+holdBy code v hold = cond (isCode Code.BaliseError code) (decidedAt v) hold

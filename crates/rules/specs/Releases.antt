@@ -4,8 +4,7 @@ use mathlib.Core.Bool.{Bool, false, cond, not, _&&_, _||_}
 use lib.Dec.{eqb, ltb}
 use lib.IntN.{pos, _*ℤ_}
 use lib.Signed.{leZ}
-use Rattle.rules.specs.Numbers.{isCode}
-use Rattle.rules.specs.Hold.{decidedAt, heldOn}
+use Rattle.rules.specs.Hold.{heldOn, holdBy}
 use Rattle.rules.specs.Table.{stands, noCauses, standsWith, anyStands, orderedAt, orderedBy, isStop, addedCauses, leftCauses}
 use Rattle.rules.specs.Checks.{checkedAt, failsAt, checkedBy, checkLeft}
 use Rattle.rules.specs.declared.Code.{Code}
@@ -134,13 +133,13 @@ releasedBrakes s loss text b = leftBrakes (leftCauses s loss text (b .causes)) b
 
 -- ---- commands 30 and 32
 
--- "“since” starts again for those"; 02, F-2: "A new error decides anew". v is the last odometer figure
+-- "“since” starts again for those"; v is the last odometer figure
 unfoldable pub sinceBy : Code → ℕ → ℕ → Since → Since
 sinceBy code which v since = record {
   aimed = since .aimed && not (isStop 0 code which);
   unexpected = since .unexpected && not (isStop 1 code which);
   landslide = since .landslide && not (isStop 2 code which);
-  balise = cond (isCode Code.BaliseError code) (decidedAt v) (since .balise);
+  balise = holdBy code v (since .balise);
 }
 
 -- "Commands 30 and 32 add their causes when accepted"
