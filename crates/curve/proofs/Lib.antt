@@ -1,5 +1,6 @@
 pub mod Ground
 pub mod Largest
+pub mod Extra
 pub mod Line
 pub mod Reaching
 pub mod Stricter

@@ -1,11 +1,13 @@
 -- What holds of every curve, for any lead: statements, proved in proofs/.
 use mathlib.Core.Path.{_≡_}
-use Prim.Native.Nat.{ℕ, suc, _*_, _≤_, _<_}
+use Prim.Native.Nat.{ℕ, suc, _+_, _*_, _≤_, _<_}
 use mathlib.Core.Bool.{true, false}
 use mathlib.Core.Logic.{_⊎_}
 use Rattle.curve.specs.Deceleration.{decelerationOf}
 use Rattle.curve.specs.Boundary.{isReached, isReachedF, isReachedAtKmh}
 use Rattle.curve.specs.Ground.{movedBy, never, reachOf, reachOfF}
+use Rattle.curve.specs.Lead.{leadsOf}
+use Rattle.curve.specs.declared.Times.{Times}
 use Rattle.curve.specs.declared.Curve.{Curve}
 
 -- ---- one rule
@@ -17,6 +19,35 @@ OneRule = (curve : Curve) (level v k T : ℕ) → 9 * v ≡ 250 * k → isReache
 -- with no margin F is E: the same line with lead 0
 abbrev pub FWithoutMarginIsE : Type 0
 FWithoutMarginIsE = (curve : Curve) (level v : ℕ) → isReachedF curve level 0 v ≡ isReached curve level v 0
+
+-- ---- the leads
+
+-- "D T_B; C T_B + gC; permitted gP more; B 30 more; Bf gBf more": with no extra they are 01's
+abbrev pub LeadsWithoutExtra : Type 0
+LeadsWithoutExtra =
+    (times : Times)
+    → times .extra ≡ 0
+    → leadsOf times
+    ≡ record {
+      d = times .brake;
+      c = times .brake + times .c;
+      permitted = times .brake + times .c + times .permitted;
+      b = times .brake + times .c + times .permitted + 30;
+      bf = times .brake + times .c + times .permitted + 30 + times .bf;
+    }
+
+-- 02, F-3: "adds an extra .. to T_B in every curve lead": the leads are those of a T_B that is longer by it
+abbrev pub ExtraLengthensBrakeTime : Type 0
+ExtraLengthensBrakeTime =
+    (times : Times)
+    → leadsOf times
+    ≡ leadsOf (record {
+      brake = times .brake + times .extra;
+      c = times .c;
+      permitted = times .permitted;
+      bf = times .bf;
+      extra = 0;
+    })
 
 -- ---- stricter figures
 

@@ -48,12 +48,13 @@ pub struct Curve {
     pub past: bool,
 }
 
-// T_B and the gaps gC, gP and gBf.
+// T_B and the gaps gC, gP and gBf; `extra` is what the leads add to T_B until a brake test has passed.
 pub struct Times {
     pub brake: u8,
     pub c: u8,
     pub permitted: u8,
     pub bf: u8,
+    pub extra: u8,
 }
 
 // The leads of the boundaries; E's is 0.

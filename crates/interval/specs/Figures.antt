@@ -16,7 +16,7 @@ use Rattle.curve.specs.declared.Interval.the-variants.{A, C, D, E, F}
 
 -- "b 700 .. T_B 30", "F margin 10", and the gaps 20, 20 and 30 of 01's example start
 abbrev train : Braking
-train = record { level = 700; leads = leadsOf (record { brake = 30; c = 20; permitted = 20; bf = 30 }); margin = 10 }
+train = record { level = 700; leads = leadsOf (record { brake = 30; c = 20; permitted = 20; bf = 30; extra = 0 }); margin = 10 }
 
 -- a curve to 40 km/h on level track
 abbrev curveTo40 : Kind → ℕ → Curve

@@ -10,7 +10,7 @@ use Rattle.rules.specs.Numbers.{codeOf, stateOf, isAccepted, isCode, isS
 use Rattle.rules.specs.Operands.{codeByte, readingOf}
 use Rattle.rules.specs.Places.{movedTrack}
 use Rattle.rules.specs.Releases.{releasedBrakes}
-use Rattle.rules.specs.Odometer.{withState, withBrakes, seenIn, keptOf, moves, measures, notedTrack, notes, adds, releases, isFresh, supervised, reportedIn}
+use Rattle.rules.specs.Odometer.{withState, withBrakes, withExtra, seenIn, keptOf, moves, measures, notedTrack, notes, adds, releases, isFresh, supervised, reportedIn}
 use Rattle.rules.specs.Commands.{entered, stopped, carriedOut, remembered, acceptedOf}
 use Rattle.rules.specs.Runs.{Sent, answerTo, stateAfter}
 use Rattle.rules.specs.History.{isIn, isReport, isSupervised}
@@ -44,6 +44,10 @@ module _ (stm : Stm) (x : Sent) (e : isAccepted (answerTo stm x) ≡ true) where
   pub feedback-after : stateAfter stm x .feedback ≡ doneBy (x .command) stm .feedback
   unfolding acceptedOf remembered
   feedback-after = ap (λ after. after .feedback) (after-accepted stm x e)
+
+  pub test-after : stateAfter stm x .test ≡ doneBy (x .command) stm .test
+  unfolding acceptedOf remembered
+  test-after = ap (λ after. after .test) (after-accepted stm x e)
 
   pub kept-after : stateAfter stm x .kept ≡ doneBy (x .command) stm .kept
   unfolding acceptedOf remembered
@@ -97,13 +101,13 @@ module _ (r : Reading) (stm : Stm) where
   unfolding adds notes measures moves
   supervised-kept = supervised-part (λ s. s .kept) (λ _. refl) (λ _. refl)
 
-  -- the train stays; the track moves in HS and DA, and is noted in DA; every report measures and keeps its figures
-  pub reported-train : (state : State) → reportedIn state r stm .train ≡ stm .train
+  -- the train stays, but for the extra; the track moves in HS and DA, and is noted in DA; every report measures and keeps its figures
+  pub reported-train : (state : State) → reportedIn state r stm .train ≡ withExtra (stm .train) (reportedIn state r stm .train .times .extra)
   unfolding measures moves
   reported-train State.DE = refl
   reported-train State.CS = refl
   reported-train State.HS = refl
-  reported-train State.DA = supervised-train
+  reported-train State.DA = supervised-train ∙ ap (λ t. withExtra (stm .train) (t .times .extra)) (sym supervised-train)
   reported-train State.FA = refl
 
   abbrev pub trackIn : State → Track
@@ -140,13 +144,14 @@ module _ (r : Reading) (stm : Stm) where
 
 -- ---- every command
 
--- only a start brings another train
-pub train-kept : (code : Code) (s : List ℕ) (stm : Stm) → isCode Code.Start code ≡ false → carriedOut code s stm .train ≡ stm .train
+-- only a start brings another train, but for the extra
+pub train-kept : (code : Code) (s : List ℕ) (stm : Stm) → isCode Code.Start code ≡ false
+    → carriedOut code s stm .train ≡ withExtra (stm .train) (carriedOut code s stm .train .times .extra)
 unfolding stopped
 train-kept Code.Start s stm e = impossible (sym e)
 train-kept Code.ChangeState s stm e = entered-train (stateOf (byteAt s 0))
   where
-    entered-train : (state : State) → entered state stm .train ≡ stm .train
+    entered-train : (state : State) → entered state stm .train ≡ withExtra (stm .train) (entered state stm .train .times .extra)
     entered-train State.DE = refl
     entered-train State.CS = refl
     entered-train State.HS = refl
@@ -160,6 +165,7 @@ train-kept Code.EndSection s stm e = refl
 train-kept Code.StopPassed s stm e = refl
 train-kept Code.Proceed s stm e = refl
 train-kept Code.BaliseError s stm e = refl
+train-kept Code.TestBrakes s stm e = refl
 
 -- entering a state other than CS leaves the track
 pub track-entered : (state : State) (stm : Stm) → isState State.CS state ≡ false → entered state stm .track ≡ stm .track

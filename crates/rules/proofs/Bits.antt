@@ -1,6 +1,6 @@
 -- The causes, the messages and the offer as numbers: every set of causes and every message is tried.
 use mathlib.Core.Path.{_≡_, refl, sym, _∙_, ap}
-use Prim.Native.Nat.{ℕ, zero, suc, _+_, _<_, _≤_}
+use Prim.Native.Nat.{ℕ, zero, suc, _+_, _%_, _<_, _≤_}
 use native.Mathlib.Nat.{suc-inj, suc-ne-zero}
 use mathlib.Core.Bool.{Bool, true, false, cond, not, _&&_}
 use mathlib.Core.List.{List, [], _∷_}
@@ -15,7 +15,7 @@ use Rattle.rules.specs.Reports.{bitValue, causesNumber}
 use Rattle.rules.specs.Written.{strongest}
 use Rattle.rules.specs.declared.Cause.{Cause}
 use Rattle.rules.specs.declared.Causes.{Causes}
-use Rattle.rules.proofs.Tests.{and-left, and-right}
+use Rattle.rules.proofs.Tests.{and-left, and-right, joined-first, joined-each}
 use Rattle.rules.proofs.Claims.{all-holds}
 use Rattle.rules.proofs.Columns.{listed}
 
@@ -125,18 +125,60 @@ module _ (c : Causes) where
 
 -- ---- messages, and the offer
 
--- three bits, and two
-pub three-bits : (a b c : Bool)
-    → let n = bitValue a 0 + bitValue b 1 + bitValue c 2 in
-    (bitOf 0 n ≡ a) × (bitOf 1 n ≡ b) × (bitOf 2 n ≡ c) × (n < 8)
-three-bits true true true = (refl, refl, refl, lit< tt)
-three-bits true true false = (refl, refl, refl, lit< tt)
-three-bits true false true = (refl, refl, refl, lit< tt)
-three-bits true false false = (refl, refl, refl, lit< tt)
-three-bits false true true = (refl, refl, refl, lit< tt)
-three-bits false true false = (refl, refl, refl, lit< tt)
-three-bits false false true = (refl, refl, refl, lit< tt)
-three-bits false false false = (refl, refl, refl, lit< tt)
+-- six bits, and two
+abbrev six : List Bool → ℕ
+six bits =
+    bitValue (getD bits 0 false) 0
+    + bitValue (getD bits 1 false) 1
+    + bitValue (getD bits 2 false) 2
+    + bitValue (getD bits 3 false) 3
+    + bitValue (getD bits 4 false) 4
+    + bitValue (getD bits 5 false) 5
+
+abbrev isSix : List Bool → Bool
+isSix bits =
+    same (bitOf 0 (six bits)) (getD bits 0 false)
+    && same (bitOf 1 (six bits)) (getD bits 1 false)
+    && same (bitOf 2 (six bits)) (getD bits 2 false)
+    && same (bitOf 3 (six bits)) (getD bits 3 false)
+    && same (bitOf 4 (six bits)) (getD bits 4 false)
+    && same (bitOf 5 (six bits)) (getD bits 5 false)
+    && ltb (six bits) 64
+    && eqb (six bits % 8) (bitValue (getD bits 0 false) 0 + bitValue (getD bits 1 false) 1 + bitValue (getD bits 2 false) 2)
+
+all-six : tried 6 isSix ≡ true
+all-six = refl
+
+pub record SixBits (a b c d e f : Bool) (n : ℕ) : Type 0 where
+  pub first : bitOf 0 n ≡ a
+  pub second : bitOf 1 n ≡ b
+  pub third : bitOf 2 n ≡ c
+  pub fourth : bitOf 3 n ≡ d
+  pub fifth : bitOf 4 n ≡ e
+  pub sixth : bitOf 5 n ≡ f
+  pub most : n < 64
+  pub low : n % 8 ≡ bitValue a 0 + bitValue b 1 + bitValue c 2
+
+pub six-bits : (a b c d e f : Bool)
+    → SixBits a b c d e f (bitValue a 0 + bitValue b 1 + bitValue c 2 + bitValue d 3 + bitValue e 4 + bitValue f 5)
+six-bits a b c d e f =
+    let bits = a ∷ b ∷ c ∷ d ∷ e ∷ f ∷ [] in
+    let n = six bits in
+    let t =
+    joined-each (same (bitOf 0 n) a)
+    (same (bitOf 1 n) b ∷ same (bitOf 2 n) c ∷ same (bitOf 3 n) d ∷ same (bitOf 4 n) e ∷ same (bitOf 5 n) f ∷ ltb n 64
+    ∷ eqb (n % 8) (bitValue a 0 + bitValue b 1 + bitValue c 2) ∷ [])
+    (passes 6 isSix all-six bits refl) in
+    record {
+      first = same-is _ _ (joined-first _ _ (passes 6 isSix all-six bits refl));
+      second = same-is _ _ (t 0);
+      third = same-is _ _ (t 1);
+      fourth = same-is _ _ (t 2);
+      fifth = same-is _ _ (t 3);
+      sixth = same-is _ _ (t 4);
+      most = ltb-true n 64 (t 5);
+      low = eqb-true (n % 8) (bitValue a 0 + bitValue b 1 + bitValue c 2) (t 6);
+    }
 
 pub two-bits : (a b : Bool) → let n = bitValue a 0 + bitValue b 1 in (bitOf 0 n ≡ a) × (bitOf 1 n ≡ b) × (n ≤ 3)
 two-bits true true = (refl, refl, lit≤ tt)

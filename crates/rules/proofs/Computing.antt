@@ -29,6 +29,7 @@ use Rattle.rules.specs.Table.{othersReleasable, isReleasable, addedCause
 use Rattle.rules.specs.Checks.{isDrop, checkedAt, failsAt, checkedBy, checkLeft}
 use Rattle.rules.specs.Releases.{freshBrakes, isHalt, isBraked, sinceAt, rollAt, notedBrakes, serviceFails, emergencyFails}
 use Rattle.rules.specs.Releases.{causesAt, addedBrakes, rollLeft, leftBrakes, releasedBrakes, sinceBy, brakesBy}
+use Rattle.rules.specs.BrakeTest.{freshTest, phaseOn, hasDropped, brakedOn, testedAt}
 use Rattle.rules.specs.Odometer.{isInsufficient, seenWith, seenOf, seenIn, moves, measures}
 use Rattle.rules.specs.Odometer.{notedTrack, notes, adds, releases, supervised}
 use Rattle.rules.specs.Shows.{goesBefore, chosenOf, chosenFrom, chosen, shownAs}
@@ -36,7 +37,7 @@ use Rattle.rules.specs.Reports.{causesNumber, messagesOf, offeredOf, isO
 use Rattle.rules.specs.Reports.{reportWith, reportInDA, reportOutside, reportOf}
 use Rattle.rules.specs.Commands.{freshKept, freshLast, noTrain, freshWith}
 use Rattle.rules.specs.Commands.{freshStm, stopped, padded, remembered, acceptedOf}
-use Rattle.rules.specs.Refusals.{isRepeat, isNext, endsNothing, findsNoPlace, rulesFor, answerOf}
+use Rattle.rules.specs.Refusals.{isRepeat, isNext, endsNothing, findsNoPlace, testsOutside, testsTwice, rulesFor, answerOf}
 use Rattle.rules.specs.Calls.{callOf, areaOf}
 use Rattle.rules.specs.Runs.{moments, stateAtEnd}
 
@@ -75,11 +76,12 @@ unfolding feedback-computes curves-compute zipWith
     isDrop checkedAt failsAt checkedBy checkLeft
     freshBrakes isHalt isBraked sinceAt rollAt notedBrakes serviceFails emergencyFails
     causesAt addedBrakes rollLeft leftBrakes releasedBrakes sinceBy brakesBy
+    freshTest phaseOn hasDropped brakedOn testedAt
     isInsufficient seenWith seenOf seenIn moves measures notedTrack notes adds releases supervised
     goesBefore chosenOf chosenFrom chosen shownAs
     causesNumber messagesOf offeredOf isOver shownFields changeOf reportWith reportInDA reportOutside reportOf
     freshKept freshLast noTrain freshWith freshStm stopped padded remembered acceptedOf
-    isRepeat isNext endsNothing findsNoPlace rulesFor answerOf
+    isRepeat isNext endsNothing findsNoPlace testsOutside testsTwice rulesFor answerOf
     callOf areaOf
     moments stateAtEnd
 computing = tt

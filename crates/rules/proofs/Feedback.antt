@@ -17,13 +17,13 @@ use Rattle.rules.proofs.HighReadings.{Alike}
 abbrev pub moreOf : Train → Measured → ℤ → Measured
 moreOf train feedback x = reportedTo feedback (train .feed) (train .pressure) x
 
-after-more : (train : Train) (feedback : Measured) (xs : List ℤ) (x : ℤ)
+pub after-more : (train : Train) (feedback : Measured) (xs : List ℤ) (x : ℤ)
     → feedbackAfter train feedback (xs ++ (x ∷ [])) ≡ moreOf train (feedbackAfter train feedback xs) x
 unfolding afterAll
 after-more train feedback [] x = refl
 after-more train feedback (y ∷ xs) x = after-more train (moreOf train feedback y) xs x
 
-each-more : (P : ℤ → Type 0) (xs : List ℤ) (x : ℤ) → Each P xs → P x → Each P (xs ++ (x ∷ []))
+pub each-more : (P : ℤ → Type 0) (xs : List ℤ) (x : ℤ) → Each P xs → P x → Each P (xs ++ (x ∷ []))
 each-more P [] x all h = (h, tt)
 each-more P (y ∷ xs) x all h = (all .0, each-more P xs x (all .1) h)
 

@@ -70,6 +70,7 @@ module _ (stm : Stm) (place : ℕ) (free : curveAt place stm .held ≡ false) wh
   command-free Code.StopPassed s f n = refl
   command-free Code.Proceed s f n = refl
   command-free Code.BaliseError s f n = refl
+  command-free Code.TestBrakes s f n = refl
 
 -- ---- a free place of sections, after one command
 
@@ -111,6 +112,7 @@ module _ (stm : Stm) (place : ℕ) (free : sectionAt place stm .held ≡ false) 
   command-unheld Code.StopPassed s f n = refl
   command-unheld Code.Proceed s f n = refl
   command-unheld Code.BaliseError s f n = refl
+  command-unheld Code.TestBrakes s f n = refl
 
 -- ---- any list
 

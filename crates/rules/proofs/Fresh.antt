@@ -17,6 +17,7 @@ use Rattle.rules.specs.Table.{noCauses}
 use Rattle.rules.specs.Releases.{freshBrakes, releasedBrakes}
 use Rattle.rules.specs.Odometer.{withState, withBrakes, seenIn, moves, measures, notes, adds, releases, isFresh, supervised, reportedIn}
 use Rattle.rules.specs.Commands.{freshKept, freshWith, entered, stopped, carriedOut}
+use Rattle.rules.specs.BrakeTest.{freshTest}
 use Rattle.rules.specs.Runs.{Sent, answerTo, stateAfter, isOf}
 use Rattle.rules.specs.History.{firstOperand, isIn, isSupervised}
 use Rattle.rules.specs.Fresh.{HoldsNothing, StartIsFresh, EnteringCS, StateNamed, StateIsEntered, StateStays}
@@ -28,7 +29,7 @@ use Rattle.rules.proofs.Answers.{passed}
 use Rattle.rules.proofs.Tests.{impossible}
 use Rattle.rules.proofs.Told.{code-is}
 use Rattle.rules.proofs.Ordering.{stands-for, brakes-after, doneBy, entered-keeps}
-use Rattle.rules.proofs.After.{control-after, train-after, track-after, feedback-after, kept-after, track-entered}
+use Rattle.rules.proofs.After.{control-after, train-after, track-after, feedback-after, test-after, kept-after, track-entered}
 
 -- ---- nothing held
 
@@ -66,10 +67,11 @@ module _ (stm : Stm) (x : Sent) (e : isAccepted (answerTo stm x) ≡ true) where
       after ∙ ap (λ is. part (carriedOut is (operandsOf (x .command)) stm)) (code-is code (codeOf (codeByte (x .command))) c)
 
 pub start-is-fresh : StartIsFresh
-unfolding freshWith freshFeedback freshKept
+unfolding freshWith freshFeedback freshTest freshKept
 start-is-fresh stm x e c =
     let control = part-by stm x e (λ s. s .control) Code.Start c (control-after stm x e) in
     let feedback = part-by stm x e (λ s. s .feedback) Code.Start c (feedback-after stm x e) in
+    let test = part-by stm x e (λ s. s .test) Code.Start c (test-after stm x e) in
     let kept = part-by stm x e (λ s. s .kept) Code.Start c (kept-after stm x e) in (
       record {
         state = rw control;
@@ -80,6 +82,8 @@ start-is-fresh stm x e c =
         pressure = rw feedback;
         reference = rw feedback;
         fault = rw feedback;
+        stage = rw test;
+        result = rw test;
         speed = rw kept;
         loss = rw kept;
         text = rw kept;
@@ -183,6 +187,7 @@ other-control Code.EndSection s stm e f = refl
 other-control Code.StopPassed s stm e f = refl
 other-control Code.Proceed s stm e f = refl
 other-control Code.BaliseError s stm e f = refl
+other-control Code.TestBrakes s stm e f = refl
 
 pub state-stays : StateStays
 state-stays stm x e c f =

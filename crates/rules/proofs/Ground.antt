@@ -163,6 +163,7 @@ module _ (id place : ℕ) (stm : Stm) (held : curveAt place stm .held ≡ true) 
   command-lost Code.StopPassed s f n = lost-nothing (curveAt place stm) held
   command-lost Code.Proceed s f n = lost-nothing (curveAt place stm) held
   command-lost Code.BaliseError s f n = lost-nothing (curveAt place stm) held
+  command-lost Code.TestBrakes s f n = lost-nothing (curveAt place stm) held
 
 -- ---- any list
 

@@ -28,11 +28,12 @@ compared = record {
       (record { kind = refl; gradient = λ level. refl; distance = le-by-compare 25000 80000 tt; speed = le-by-compare 30 40 tt });
   brakes = refl;
   feedback = refl;
+  test = refl;
   kept = refl;
   last = record { code = refl; number = refl; permitted = le-by-compare _ _ tt; order = le-refl 0 };
 }
 
-meets : Meets true true true true true far near harderPair
+meets : Meets true true true true true true far near harderPair
 unfolding computing harderPair IsLe
 meets = record {
   first = led farCurve;
@@ -50,6 +51,7 @@ meets = record {
   emergency = ((refl, refl), ((refl, refl), ((refl, refl), tt)));
   gear = (refl, (refl, (refl, tt)));
   stops = λ e. absurd (false≢true e);
+  idle = refl;
 }
 
 pub brakes-harder : BrakesHarder
@@ -67,6 +69,7 @@ brakes-harder = record {
   emergency = meets .emergency;
   gear = meets .gear;
   stops = meets .stops;
+  tests = meets .idle;
   answers = refl;
   answers′ = refl;
   first = refl;

@@ -152,6 +152,7 @@ fortyAfter Code.EndSection s forty = forty
 fortyAfter Code.StopPassed s forty = fortyBy (byteAt s 0) forty
 fortyAfter Code.Proceed s forty = false
 fortyAfter Code.BaliseError s forty = forty
+fortyAfter Code.TestBrakes s forty = forty
 
 forty-by : (code : Code) (s : List ℕ) (stm : Stm)
     → (isCode Code.Start code || isCode Code.ChangeState code && isState State.CS (stateOf (byteAt s 0))) ≡ false
@@ -169,6 +170,7 @@ forty-by Code.EndSection s stm f = refl
 forty-by Code.StopPassed s stm f = refl
 forty-by Code.Proceed s stm f = refl
 forty-by Code.BaliseError s stm f = refl
+forty-by Code.TestBrakes s stm f = refl
 
 forty-fresh : (code : Code) (s : List ℕ) (stm : Stm)
     → (isCode Code.Start code || isCode Code.ChangeState code && isState State.CS (stateOf (byteAt s 0))) ≡ true
@@ -184,6 +186,7 @@ forty-fresh Code.EndSection s stm f = impossible f
 forty-fresh Code.StopPassed s stm f = impossible f
 forty-fresh Code.Proceed s stm f = impossible f
 forty-fresh Code.BaliseError s stm f = impossible f
+forty-fresh Code.TestBrakes s stm f = impossible f
 
 forty-after : (stm : Stm) (x : Sent) → isAccepted (answerTo stm x) ≡ true
     → stateAfter stm x .track .forty ≡ doneBy (x .command) stm .track .forty
@@ -206,6 +209,7 @@ forty-on Code.StopPassed s e = go (eqb (byteAt s 0) 1)
     go false = refl
 forty-on Code.Proceed s e = impossible (sym e)
 forty-on Code.BaliseError s e = refl
+forty-on Code.TestBrakes s e = refl
 
 abbrev endsForty : Stm → List ℕ → Bool
 endsForty before command = freshens command || isOf Code.Proceed command
@@ -243,6 +247,7 @@ forty-off Code.EndSection s e = refl
 forty-off Code.StopPassed s e = rw e
 forty-off Code.Proceed s e = refl
 forty-off Code.BaliseError s e = refl
+forty-off Code.TestBrakes s e = refl
 
 forty-away : (stm : Stm) (x : Sent) (fresh : Bool) → isAccepted (answerTo stm x) ≡ true → freshens (x .command) ≡ fresh
     → passesStop 1 (x .command) ≡ false → stm .track .forty ≡ false → stateAfter stm x .track .forty ≡ false

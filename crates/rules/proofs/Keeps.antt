@@ -6,24 +6,26 @@ use mathlib.Core.Bool.{Bool, true, false, not, _&&_, _||_, or-false}
 use mathlib.Core.List.{List, [], _∷_}
 use lib.Dec.{leb}
 use lib.ListN.{length, drop, length-append}
-use borrow.Author.Tests.{leb-true}
+use borrow.Author.Tests.{leb-true, not-false}
 use Rattle.wire.specs.Codes.{longest}
 use Rattle.wire.specs.Numbers.{byteAt}
 use Rattle.wire.specs.Form.{reportLength, operandsOf}
 use Rattle.pressure.specs.Phases.{isSet}
 use Rattle.curve.specs.declared.Curve.{Curve}
 use Rattle.rules.specs.Numbers.{isCode, isState, codeOf, stateOf, isAccepted}
-use Rattle.rules.specs.Operands.{codeByte, within, trainOf, trainInRange, startInRange, readingOf, curveOf, curveInRange, newCurveInRange, sectionOf, sectionInRange, inRange}
+use Rattle.rules.specs.Operands.{codeByte, within, bitOf, extraOf, trainOf, trainInRange, startInRange, readingOf, curveOf, curveInRange, newCurveInRange, sectionOf, sectionInRange, inRange}
 use Rattle.rules.specs.Places.{freshTrack, withCurves, withSections, withForty, givenCurve, endedCurve, givenSection, endedSection}
 use Rattle.rules.specs.Releases.{freshBrakes, brakesBy}
-use Rattle.rules.specs.Odometer.{withState, withTrack, withBrakes}
+use Rattle.rules.specs.BrakeTest.{begunTest, leftTest}
+use Rattle.rules.specs.Odometer.{withState, withTrack, withBrakes, withTest}
 use Rattle.rules.specs.Reports.{shownFields, reportWith, reportInDA, reportOutside, reportFor, reportOf}
 use Rattle.rules.specs.Commands.{freshStm, entered, fortyBy, stopped, carriedOut, padded, remembered, acceptedOf}
-use Rattle.rules.specs.Refusals.{isPath, isAllowed, ordersDA}
+use Rattle.rules.specs.Refusals.{isPath, isAllowed, ordersDA, testsOutside}
 use Rattle.rules.specs.Runs.{Sent, answerTo, stateAfter, stateAtEnd}
-use Rattle.rules.specs.Units.{isSectionSound, IsUnit, CallKeepsUnit, EveryRunIsUnit}
+use Rattle.rules.specs.Units.{isExtraSound, isSectionSound, IsUnit, CallKeepsUnit, EveryRunIsUnit}
 use Rattle.rules.specs.declared.Code.{Code}
 use Rattle.rules.specs.declared.State.{State}
+use Rattle.rules.specs.declared.Verdict.{Verdict}
 use Rattle.rules.specs.declared.Train.{Train}
 use Rattle.rules.specs.declared.Section.{Section}
 use Rattle.rules.specs.declared.Track.{Track}
@@ -33,6 +35,7 @@ use Rattle.rules.proofs.Answers.{Passed, after-accepted, after-other, p
 use Rattle.rules.proofs.Tests.{impossible, and-left, and-right, and-both, or-left, or-right, or-second, unless-used, joined-each}
 use Rattle.rules.proofs.SoundTracks.{CurvesSound, SectionsSound, curve-given, curve-ended, section-given, section-ended, track-fresh}
 use Rattle.rules.proofs.Counts.{LimitsSound, brakes-fresh, brakes-by}
+use Rattle.rules.proofs.TestParts.{begun-sound, left-sound}
 use Rattle.rules.proofs.UnitParts.{Parts, unit-parts, parts-unit, with-track, with-brakes, fresh-at, fresh-parts, fresh-is-unit}
 use Rattle.rules.proofs.Reporting.{reading-sound, reported-parts}
 
@@ -57,7 +60,8 @@ failed-stays State.FA new path e = path
 
 module _ (stm : Stm) (p : Parts stm) where
   state-parts : (new : State) → isPath (stm .control .state) new ≡ true → isState State.CS new ≡ false
-      → (isState State.DA new ≡ true → isSet (stm .feedback .phase) ≡ true) → Parts (withState stm new)
+      → (isState State.DA new ≡ true → isSet (stm .feedback .phase) ≡ true)
+      → Parts (withTest (withState stm new) (leftTest (stm .test)))
   state-parts new path other set = record {
     body = p .body;
     at = record {
@@ -65,10 +69,12 @@ module _ (stm : Stm) (p : Parts stm) where
       failed = λ e. failed-stays (stm .control .state) new path (p .at .failed e);
       reference = set;
     };
+    test = left-sound (stm .train) (stm .control .state) new (stm .test) (p .test);
   }
 
   entered-parts : (new : State) → isPath (stm .control .state) new ≡ true
-      → (isState State.DA new ≡ true → isSet (stm .feedback .phase) ≡ true) → Parts (entered new stm)
+      → (isState State.DA new ≡ true → isSet (stm .feedback .phase) ≡ true)
+      → Parts (withTest (entered new stm) (leftTest (stm .test)))
   entered-parts State.DE path set = state-parts State.DE path refl set
   entered-parts State.CS path set =
       let emptied = withTrack (withState stm State.CS) freshTrack in
@@ -76,6 +82,7 @@ module _ (stm : Stm) (p : Parts stm) where
       record {
         body = with-brakes emptied body freshBrakes (brakes-fresh (stm .train));
         at = fresh-at State.CS (stm .feedback .phase) set;
+        test = left-sound (stm .train) (stm .control .state) State.CS (stm .test) (p .test);
       }
   entered-parts State.HS path set = state-parts State.HS path refl set
   entered-parts State.DA path set = state-parts State.DA path refl set
@@ -85,7 +92,8 @@ module _ (stm : Stm) (p : Parts stm) where
 
   track-parts : (track : Track) → CurvesSound (track .curves) → SectionsSound (stm .train .length) (track .sections)
       → Parts (withTrack stm track)
-  track-parts track c s = record { body = with-track stm (p .body) track (record { curves = c; sections = s }); at = p .at }
+  track-parts track c s =
+      record { body = with-track stm (p .body) track (record { curves = c; sections = s }); at = p .at; test = p .test }
 
   curves-parts : (curves : List Curve) → CurvesSound curves → Parts (withTrack stm (withCurves (stm .track) curves))
   curves-parts curves c = track-parts (withCurves (stm .track) curves) c (p .body .places .sections)
@@ -111,7 +119,14 @@ module _ (stm : Stm) (p : Parts stm) where
       failed = p .at .failed;
       reference = p .at .reference;
     };
+    test = p .test;
   }
+
+  -- ---- command 40, in DE
+
+  begun-parts : isState State.DE (stm .control .state) ≡ true → Parts (withTest stm (begunTest (stm .test)))
+  begun-parts de =
+      record { body = p .body; at = p .at; test = begun-sound (stm .train) (stm .control .state) (stm .test) de (p .test) }
 
 stopped-parts : (which : ℕ) (stm : Stm) → Parts stm → LimitsSound (stm .train) → isState State.DA (stm .control .state) ≡ true
     → Parts (stopped which stm)
@@ -124,7 +139,15 @@ stopped-parts which stm p limits da =
 
 given-train : (s : List ℕ) → startInRange s ≡ true → trainInRange (trainOf s) ≡ true
 unfolding startInRange
-given-train s e = and-right (leb (byteAt s 0) 3) (trainInRange (trainOf s)) e
+given-train s e = and-right (leb (byteAt s 0) 7) (trainInRange (trainOf s)) e
+
+given-extra : (s : List ℕ) → isExtraSound (trainOf s .times .extra) Verdict.Pending ≡ true
+unfolding trainOf
+given-extra s = go (bitOf 2 (byteAt s 0))
+  where
+    go : (flag : Bool) → isExtraSound (extraOf flag) Verdict.Pending ≡ true
+    go true = refl
+    go false = refl
 
 given-curve : (s : List ℕ) → newCurveInRange s ≡ true → curveInRange (curveOf s) ≡ true
 unfolding newCurveInRange
@@ -168,6 +191,11 @@ limits-of train e =
 train-limits : (stm : Stm) → Parts stm → (stm .control .started || false) ≡ true → LimitsSound (stm .train)
 train-limits stm p e = limits-of (stm .train) (p .body .range (sym (or-false (stm .control .started)) ∙ e))
 
+-- a test that is not refused by 14 is asked in DE
+asked-in-de : (stm : Stm) → testsOutside stm Code.TestBrakes ≡ false → isState State.DE (stm .control .state) ≡ true
+unfolding testsOutside
+asked-in-de stm e = not-false (isState State.DE (stm .control .state)) e
+
 -- ---- every accepted command
 
 -- what refusals 5 and 9 to 11 let pass
@@ -176,9 +204,10 @@ pub record Granted (code : Code) (s : List ℕ) (stm : Stm) : Type 0 where
   pub range : inRange code s ≡ true
   pub allowed : isAllowed (stm .control .state) code s ≡ true
   pub reference : (ordersDA code s && not (isSet (stm .feedback .phase))) ≡ false
+  pub inDE : testsOutside stm code ≡ false
 
 carried-parts : (code : Code) (s : List ℕ) (stm : Stm) → Granted code s stm → Parts stm → Parts (carriedOut code s stm)
-carried-parts Code.Start s stm g p = fresh-parts true (trainOf s) (λ _. given-train s (g .range))
+carried-parts Code.Start s stm g p = fresh-parts true (trainOf s) (λ _. given-train s (g .range)) (given-extra s)
 carried-parts Code.ChangeState s stm g p =
     let new = stateOf (byteAt s 0) in
     entered-parts stm p new (g .allowed) (unless-used (isState State.DA new) (isSet (stm .feedback .phase)) (g .reference))
@@ -202,6 +231,7 @@ carried-parts Code.EndSection s stm g p =
 carried-parts Code.StopPassed s stm g p = stopped-parts (byteAt s 0) stm p (train-limits stm p (g .started)) (g .allowed)
 carried-parts Code.Proceed s stm g p = forty-parts stm p false
 carried-parts Code.BaliseError s stm g p = by-parts stm p Code.BaliseError 0 (stm .kept .speed) (train-limits stm p (g .started)) (g .allowed)
+carried-parts Code.TestBrakes s stm g p = begun-parts stm p (asked-in-de stm (g .inDE))
 
 -- ---- what is remembered of it
 
@@ -234,13 +264,13 @@ length-report State.FA stm = refl
 remembered-unit : (command : List ℕ) (stm : Stm) → Parts stm → IsUnit (remembered command stm)
 unfolding remembered reportOf
 remembered-unit command stm p =
-    parts-unit (remembered command stm) (record { body = p .body; at = p .at }) (length-padded longest command)
+    parts-unit (remembered command stm) (record { body = p .body; at = p .at; test = p .test }) (length-padded longest command)
     (length-report (stm .control .state) stm)
 
 -- ---- every call, every run
 
 granted-of : (command : List ℕ) (stm : Stm) → Passed stm command → Granted (codeOf (codeByte command)) (operandsOf command) stm
-granted-of command stm t = record { started = t .started; range = t .range; allowed = t .allowed; reference = t .reference }
+granted-of command stm t = record { started = t .started; range = t .range; allowed = t .allowed; reference = t .reference; inDE = t .inDE }
 
 accepted-unit : (command : List ℕ) (stm : Stm) → Passed stm command → IsUnit stm → IsUnit (acceptedOf command stm)
 unfolding acceptedOf

@@ -33,11 +33,12 @@ compared = record {
       (record { kind = refl; gradient = λ level. refl; distance = le-by-compare 43300 43400 tt; speed = le-refl 40 });
   brakes = refl;
   feedback = refl;
+  test = refl;
   kept = refl;
   last = record { code = refl; number = refl; permitted = le-by-compare _ _ tt; order = le-refl 0 };
 }
 
-meets : Meets true true true true true far near changePair
+meets : Meets true true true true true true far near changePair
 unfolding computing changePair IsLe
 meets = record {
   first = led in434;
@@ -49,6 +50,7 @@ meets = record {
   emergency = ((refl, refl), tt);
   gear = (refl, tt);
   stops = λ e. absurd (false≢true e);
+  idle = refl;
 }
 
 -- the report of both lists
@@ -68,6 +70,6 @@ unfolding computing changePair
 figure-may-be-larger claim =
     let both =
     claim far near (changePair .slower) (changePair .faster) (meets .compared) (meets .lists) (units meets) (meets .refusals)
-    (meets .service) (meets .emergency) (meets .gear) (meets .stops) in
+    (meets .service) (meets .emergency) (meets .gear) (meets .stops) (meets .idle) in
     let no-larger : changeIn (momentOf near x .area) ≤ changeIn (momentOf far x .area) = both .0 in
     absurd (omega (arith, no-larger, of-first, of-second))

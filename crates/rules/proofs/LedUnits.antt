@@ -10,6 +10,7 @@ use Rattle.pressure.specs.declared.Phase.{Phase}
 use Rattle.pressure.specs.Convert.{kPa}
 use Rattle.rules.specs.Places.{freshTrack}
 use Rattle.rules.specs.Releases.{freshBrakes}
+use Rattle.rules.specs.BrakeTest.{freshTest}
 use Rattle.rules.specs.Commands.{freshStm, padded}
 use Rattle.rules.specs.Runs.{Sent, stateAtEnd}
 use Rattle.rules.specs.TwoRuns.{TrainsCompared}
@@ -28,7 +29,7 @@ trainWith full brake check = record {
   length = 400;
   full = full;
   soft = 500;
-  times = record { brake = brake; c = 20; permitted = 20; bf = 30 };
+  times = record { brake = brake; c = 20; permitted = 20; bf = 30; extra = 0 };
   margin = 10;
   emergency = 15;
   sufficient = 50;
@@ -66,6 +67,7 @@ standing full brake check = record {
     pressures = record { pressure = kPa 500; reference = kPa 500 };
     fault = false;
   };
+  test = freshTest;
   kept = record { speed = 0; loss = false; text = false; halka = false };
   last = record {
     bytes = padded longest (2 ∷ 0 ∷ 0 ∷ 0 ∷ 33 ∷ 3 ∷ []);

@@ -30,6 +30,7 @@ pub mod SoundTracks
 pub mod Counts
 pub mod HighReadings
 pub mod Feedback
+pub mod TestParts
 pub mod UnitParts
 pub mod Reporting
 pub mod Keeps

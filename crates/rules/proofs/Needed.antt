@@ -17,7 +17,7 @@ use Rattle.rules.proofs.Pairs.{same-curve, itself, faster, Meets, concl
 
 -- ---- no neutral
 
-gear-meets : Meets true true true false true (standing 700 30 13) (standing 700 30 13) gearPair
+gear-meets : Meets true true true false true true (standing 700 30 13) (standing 700 30 13) gearPair
 unfolding computing gearPair
 gear-meets = record {
   first = led [];
@@ -29,6 +29,7 @@ gear-meets = record {
   emergency = ((refl, refl), ((refl, refl), tt));
   gear = tt;
   stops = λ e. (refl, refl);
+  idle = refl;
 }
 
 -- full, and none
@@ -41,7 +42,7 @@ gear-is-needed claim = let milder : 2 ≤ 0 = concluded claim gear-meets .1 .0 r
 abbrev after-stop : ℕ → Stm
 after-stop full = stateAtEnd (standing full 30 13) stopPassed
 
-stops-meets : Meets true true true true false (after-stop 700) (after-stop 600) stopsPair
+stops-meets : Meets true true true true false true (after-stop 700) (after-stop 600) stopsPair
 unfolding computing stopsPair IsLe
 stops-meets = record {
   first = led stopPassed;
@@ -52,6 +53,7 @@ stops-meets = record {
     track = same-curve freeCurve true;
     brakes = refl;
     feedback = refl;
+    test = refl;
     kept = refl;
     last = record { code = refl; number = refl; permitted = le-refl 40; order = le-refl 3 };
   };
@@ -61,6 +63,7 @@ stops-meets = record {
   emergency = ((refl, refl), tt);
   gear = (refl, tt);
   stops = tt;
+  idle = refl;
 }
 
 -- emergency, and none
@@ -74,7 +77,7 @@ drops-faster : (v : ℕ) → Both Faster (dropBetween 0 v) (dropBetween v v)
 drops-faster v =
     (faster 34 0 v 0 0 1000 0 zero-le, (faster 35 v v 0 0 800 0 (le-refl v), (faster 36 v v 0 0 1000 0 (le-refl v), tt)))
 
-service-meets : Meets true false true true true (standing 700 1 13) (standing 700 1 13) servicePair
+service-meets : Meets true false true true true true (standing 700 1 13) (standing 700 1 13) servicePair
 unfolding computing servicePair
 service-meets = record {
   first = led-short-brake [];
@@ -86,6 +89,7 @@ service-meets = record {
   emergency = ((refl, refl), ((refl, refl), ((refl, refl), tt)));
   gear = (refl, (refl, (refl, tt)));
   stops = λ e. (refl, refl);
+  idle = refl;
 }
 
 -- emergency, and full
@@ -94,7 +98,7 @@ unfolding computing servicePair
 no-service-fault-is-needed claim =
     let milder : 3 ≤ 2 = concluded claim service-meets .1 .1 .0 refl refl .order in omega arith
 
-emergency-meets : Meets true true false true true (standing 700 30 1) (standing 700 30 1) emergencyPair
+emergency-meets : Meets true true false true true true (standing 700 30 1) (standing 700 30 1) emergencyPair
 unfolding computing emergencyPair
 emergency-meets = record {
   first = led-short-check [];
@@ -106,6 +110,7 @@ emergency-meets = record {
   emergency = tt;
   gear = (refl, (refl, (refl, tt)));
   stops = λ e. (refl, refl);
+  idle = refl;
 }
 
 -- 0 permitted in FA, and 100
@@ -119,7 +124,7 @@ no-emergency-fault-is-needed claim =
 abbrev ahead : Stm
 ahead = stateAtEnd (standing 700 30 13) stopAhead
 
-refusals-meets : Meets false true true true true ahead ahead refusalsPair
+refusals-meets : Meets false true true true true true ahead ahead refusalsPair
 unfolding computing refusalsPair IsLe
 refusals-meets = record {
   first = led stopAhead;
@@ -134,6 +139,7 @@ refusals-meets = record {
   emergency = ((refl, refl), ((refl, refl), ((refl, refl), tt)));
   gear = (refl, (refl, (refl, tt)));
   stops = λ e. (refl, refl);
+  idle = refl;
 }
 
 -- 26 permitted, and 28

@@ -87,6 +87,7 @@ carried-started Code.EndSection s stm e = was-started stm e
 carried-started Code.StopPassed s stm e = was-started stm e
 carried-started Code.Proceed s stm e = was-started stm e
 carried-started Code.BaliseError s stm e = was-started stm e
+carried-started Code.TestBrakes s stm e = was-started stm e
 
 accepted-started : (stm : Stm) (command : List ℕ) → Passed stm command → acceptedOf command stm .control .started ≡ true
 unfolding acceptedOf remembered

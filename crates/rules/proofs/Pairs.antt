@@ -14,7 +14,7 @@ use Rattle.places.specs.Places.{places}
 use Rattle.rules.specs.Places.{anyOf, freeCurve, freeSection}
 use Rattle.rules.specs.Runs.{moments}
 use Rattle.rules.specs.Units.{IsUnit}
-use Rattle.rules.specs.TwoRuns.{TrainsCompared, TracksCompared, Compared, Both, Faster, RefusedAlike, NoServiceFault, NoEmergencyFault, InGear, UnexpectedStopAlike, Presumed, Claimed, ClaimGiven}
+use Rattle.rules.specs.TwoRuns.{TrainsCompared, TracksCompared, Compared, Both, Faster, RefusedAlike, NoServiceFault, NoEmergencyFault, InGear, UnexpectedStopAlike, NoTestRuns, Presumed, Claimed, ClaimGiven}
 use Rattle.rules.specs.Figures.{odometer}
 use Rattle.rules.specs.Pairs.{Pair, firstUnit, secondUnit}
 use Rattle.rules.specs.declared.Section.{Section}
@@ -64,6 +64,7 @@ itself unit train track = record {
   track = track;
   brakes = refl;
   feedback = refl;
+  test = refl;
   kept = refl;
   last = record { code = refl; number = refl; permitted = le-refl _; order = le-refl _ };
 }
@@ -85,7 +86,7 @@ faster n v v′ moved measured external buttons h = record {
 -- ---- what a pair has to meet
 
 -- its units are u and w; it meets what `ClaimGiven` presumes with these marks
-pub record Meets (r s e g t : Bool) (u w : Stm) (pair : Pair) : Type 0 where
+pub record Meets (r s e g t i : Bool) (u w : Stm) (pair : Pair) : Type 0 where
   pub first : firstUnit pair ≡ u
   pub second : secondUnit pair ≡ w
   pub compared : Compared u w
@@ -95,16 +96,17 @@ pub record Meets (r s e g t : Bool) (u w : Stm) (pair : Pair) : Type 0 where
   pub emergency : Presumed e (Both NoEmergencyFault (moments u (pair .slower)) (moments w (pair .faster)))
   pub gear : Presumed g (Both InGear (pair .slower) (pair .faster))
   pub stops : Presumed t (UnexpectedStopAlike u w)
+  pub idle : Presumed i (NoTestRuns u)
 
 -- then these are units, since commands have led to them,
-pub units : {r s e g t : Bool} {u w : Stm} {pair : Pair} → Meets r s e g t u w pair → IsUnit u × IsUnit w
+pub units : {r s e g t i : Bool} {u w : Stm} {pair : Pair} → Meets r s e g t i u w pair → IsUnit u × IsUnit w
 units {pair = pair} m =
     (subst IsUnit (m .first) (every-run-is-unit (pair .first)), subst IsUnit (m .second) (every-run-is-unit (pair .second)))
 
 -- and the claim gives what it claims
-pub concluded : {r s e g t : Bool} {u w : Stm} {pair : Pair}
-    → ClaimGiven true r s e g t → Meets r s e g t u w pair
+pub concluded : {r s e g t i : Bool} {u w : Stm} {pair : Pair}
+    → ClaimGiven true r s e g t i → Meets r s e g t i u w pair
     → Both Claimed (moments u (pair .slower)) (moments w (pair .faster))
 concluded {u = u} {w = w} {pair = pair} claim m =
     claim u w (pair .slower) (pair .faster) (m .compared) (m .lists) (units m) (m .refusals) (m .service) (m .emergency)
-    (m .gear) (m .stops)
+    (m .gear) (m .stops) (m .idle)

@@ -97,6 +97,7 @@ module _ (id place : ℕ) (stm : Stm) (held : curveAt place stm .held ≡ true) 
   command-past Code.StopPassed s f n u = refl
   command-past Code.Proceed s f n u = refl
   command-past Code.BaliseError s f n u = refl
+  command-past Code.TestBrakes s f n u = refl
 
 module _ (id place : ℕ) where
   one-past : (stm : Stm) (x : Sent) (accepted : Bool) → isAccepted (answerTo stm x) ≡ accepted

@@ -12,7 +12,7 @@ use Rattle.pressure.specs.Report.{reportedTo}
 use Rattle.pressure.specs.Claims.{afterAll}
 use Rattle.rules.specs.Numbers.{isAccepted, isCode, isState, codeOf, stateOf}
 use Rattle.rules.specs.Operands.{codeByte, readingOf}
-use Rattle.rules.specs.Odometer.{keptOf, reportedIn}
+use Rattle.rules.specs.Odometer.{withExtra, keptOf, reportedIn}
 use Rattle.rules.specs.Commands.{entered, stopped, carriedOut}
 use Rattle.rules.specs.Runs.{Sent, answerTo, stateAfter, stateAtEnd, noneAccepted, isOf}
 use Rattle.rules.specs.History.{externalOf, isReport, collected}
@@ -95,6 +95,7 @@ other-keeps Code.EndSection s stm e = (refl, refl)
 other-keeps Code.StopPassed s stm e = (refl, refl)
 other-keeps Code.Proceed s stm e = (refl, refl)
 other-keeps Code.BaliseError s stm e = (refl, refl)
+other-keeps Code.TestBrakes s stm e = (refl, refl)
 
 abbrev brings : Stm → List ℕ → Bool
 brings before command = isOf Code.Start command || isReport command
@@ -127,10 +128,15 @@ feedback-once stm x true false e c n =
 feedback-once stm x false report e c n = ap (λ s. s .feedback) (after-other stm x e)
 
 pub train-once : (stm : Stm) (x : Sent) (accepted : Bool) → isAccepted (answerTo stm x) ≡ accepted
-    → (accepted ≡ true → isOf Code.Start (x .command) ≡ false) → stateAfter stm x .train ≡ stm .train
+    → (accepted ≡ true → isOf Code.Start (x .command) ≡ false)
+    → stateAfter stm x .train ≡ withExtra (stm .train) (stateAfter stm x .train .times .extra)
 train-once stm x true e n =
-    train-after stm x e ∙ train-kept (codeOf (codeByte (x .command))) (operandsOf (x .command)) stm (n refl)
-train-once stm x false e n = ap (λ s. s .train) (after-other stm x e)
+    train-after stm x e
+    ∙ train-kept (codeOf (codeByte (x .command))) (operandsOf (x .command)) stm (n refl)
+    ∙ ap (λ train. withExtra (stm .train) (train .times .extra)) (sym (train-after stm x e))
+train-once stm x false e n =
+    let same = after-other stm x e in
+    ap (λ s. s .train) same ∙ ap (λ s. withExtra (stm .train) (s .train .times .extra)) (sym same)
 
 -- one reading more, or none
 reading-more : (train : Train) (feedback : Measured) (t : Bool) (r : ℤ) (rs : List ℤ)
@@ -141,7 +147,8 @@ reading-more train feedback true r rs = refl
 reading-more train feedback false r rs = refl
 
 over-reports : (stm : Stm) (xs : List Sent) → noneAccepted isStarting stm xs ≡ true
-    → (stateAtEnd stm xs .feedback ≡ feedbackAfter (stm .train) (stm .feedback) (readings stm xs)) × (stateAtEnd stm xs .train ≡ stm .train)
+    → (stateAtEnd stm xs .feedback ≡ feedbackAfter (stm .train) (stm .feedback) (readings stm xs))
+    × (stateAtEnd stm xs .train ≡ withExtra (stm .train) (stateAtEnd stm xs .train .times .extra))
 unfolding stateAtEnd collected afterAll
 over-reports stm [] n = (refl, refl)
 over-reports stm (x ∷ xs) n =
@@ -153,7 +160,7 @@ over-reports stm (x ∷ xs) n =
       rest .0
           ∙ ap₂ (λ tr f. feedbackAfter tr f (readings (stateAfter stm x) xs)) train first
           ∙ reading-more (stm .train) (stm .feedback) (accepted && isReport (x .command)) (externalOf (x .command)) (readings (stateAfter stm x) xs),
-      rest .1 ∙ train,
+      rest .1 ∙ ap (λ tr. withExtra tr (stateAtEnd (stateAfter stm x) xs .train .times .extra)) train,
     )
 
 pub feedback-over-reports : FeedbackOverReports

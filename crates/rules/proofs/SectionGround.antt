@@ -103,6 +103,7 @@ module _ (id place : ℕ) (stm : Stm) where
     command-moved Code.StopPassed s f n = refl
     command-moved Code.Proceed s f n = refl
     command-moved Code.BaliseError s f n = refl
+    command-moved Code.TestBrakes s f n = refl
 
   -- ---- a place that does not hold the id goes on not holding it
 
@@ -145,6 +146,7 @@ module _ (id place : ℕ) (stm : Stm) where
   command-gone Code.StopPassed s f n g = g
   command-gone Code.Proceed s f n g = g
   command-gone Code.BaliseError s f n g = g
+  command-gone Code.TestBrakes s f n g = g
 
 -- ---- any list
 
@@ -248,7 +250,7 @@ module _ (id place length : ℕ) where
   length-kept stm x true e n h =
       let f = neither (freshens (x .command)) (namesSection id (x .command)) (n refl) .0 in
       let start = neither (isOf Code.Start (x .command)) (ordersCS (x .command)) f .0 in
-      rw (train-after stm x e, train-kept (codeOf (codeByte (x .command))) (operandsOf (x .command)) stm start) h
+      rw (train-after stm x e) (ap (λ t. t .length) (train-kept (codeOf (codeByte (x .command))) (operandsOf (x .command)) stm start) ∙ h)
   length-kept stm x false e n h = rw (after-other stm x e) h
 
   module _ (stm : Stm) (x : Sent) (xs : List Sent) (n : noneAccepted (leavesSection id) stm (x ∷ xs) ≡ true) (s : Ending stm) where

@@ -95,7 +95,7 @@ abbrev pub joined : Bool → List Bool → Bool
 joined a [] = a
 joined a (b ∷ bs) = joined (a && b) bs
 
-joined-first : (a : Bool) (bs : List Bool) → joined a bs ≡ true → a ≡ true
+pub joined-first : (a : Bool) (bs : List Bool) → joined a bs ≡ true → a ≡ true
 joined-first a [] e = e
 joined-first a (b ∷ bs) e = and-left a b (joined-first (a && b) bs e)
 

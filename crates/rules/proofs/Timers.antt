@@ -16,6 +16,7 @@ use Rattle.rules.specs.Places.{anyOf}
 use Rattle.rules.specs.Table.{stands, noCauses, anyStands, standsWith}
 use Rattle.rules.specs.Checks.{isDrop, begins, countedOn, failsNow, checkedAt, failsAt, checkedBy}
 use Rattle.rules.specs.Releases.{freshBrakes, serviceFails, emergencyFails, brakesBy}
+use Rattle.rules.specs.Odometer.{withExtra}
 use Rattle.rules.specs.Runs.{Sent, answerTo, stateAfter, stateAtEnd, isOf, ordersCS, freshens}
 use Rattle.rules.specs.History.{isSupervised, collected, standsThrough}
 use Rattle.rules.specs.Braking.{measuredAt, orderedNow}
@@ -158,7 +159,7 @@ no-order-fresh : (stm : Stm) (x : Sent) → isAccepted (answerTo stm x) ≡ true
 unfolding freshBrakes noCauses
 no-order-fresh stm x e f = let b = brakes-after stm x e ∙ fresh-brakes stm (x .command) f in (rw b, rw b)
 
--- an order, told by the causes that stand; its check and its limit
+-- an order, told by the causes that stand; its check and its limit, in which the extra of a brake test has no part
 record Checks (ordered : Stm → Bool) (standing : Causes → Bool) (check : Brakes → Check) (limit : Train → ℕ) : Type 0 where
   told : (stm : Stm) → standing (stm .brakes .causes) ≡ ordered stm
   unordered : (stm : Stm) (x : Sent) → isAccepted (answerTo stm x) ≡ true → freshens (x .command) ≡ true
@@ -169,6 +170,7 @@ record Checks (ordered : Stm → Bool) (standing : Causes → Bool) (check : Bra
       × (check (stateAfter stm x .brakes)
       ≡ checkedAt (standing (stm .brakes .causes)) (standing (addedAt stm (x .command) .brakes .causes)) (limit (stm .train))
       (isDrop (measuredAt stm (x .command) .feedback)) (check (stm .brakes)))
+  apart : (train : Train) (extra : ℕ) → limit (withExtra train extra) ≡ limit train
   by : (code : Code) (which v : ℕ) (b : Brakes)
       → check (brakesBy code which v b) ≡ checkedBy (standing (b .causes)) (standing (brakesBy code which v b .causes)) (check b)
 
@@ -206,7 +208,7 @@ module _ {ordered : Stm → Bool} {standing : Causes → Bool} {check : Brakes �
         standing (c .by _ _) (brakes-by-other stm x e u (unfresh stm x e stands)) .0 (c .told stm ∙ stood);
     limited = λ stm x e stands.
         let start = neither (isOf Code.Start (x .command)) (ordersCS (x .command)) (unfresh stm x e stands) .0 in
-        ap limit (train-once stm x true e (λ _. start));
+        ap limit (train-once stm x true e (λ _. start)) ∙ c .apart (stm .train) _;
   }
 
 service-checks : Checks isOrdered anyStands (λ b. b .service) (λ train. train .times .brake)
@@ -215,6 +217,7 @@ service-checks = record {
   told = ordered-is;
   unordered = λ stm x e f. no-order-fresh stm x e f .0;
   reported = λ stm x e u stands. (added-stands stm x e u stands, service-after stm x e u stands);
+  apart = λ train extra. refl;
   by = λ code which v b. refl;
 }
 
@@ -224,6 +227,7 @@ emergency-checks = record {
   told = emergency-is;
   unordered = λ stm x e f. no-order-fresh stm x e f .1;
   reported = λ stm x e u stands. (added-emergency-stands stm x e u stands, emergency-after stm x e u stands);
+  apart = λ train extra. refl;
   by = λ code which v b. refl;
 }
 

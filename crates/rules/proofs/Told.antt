@@ -18,6 +18,7 @@ code-told Code.EndSection = refl
 code-told Code.StopPassed = refl
 code-told Code.Proceed = refl
 code-told Code.BaliseError = refl
+code-told Code.TestBrakes = refl
 
 state-told : (state : State) → stateOf (stateNumber state) ≡ state
 unfolding stateOf

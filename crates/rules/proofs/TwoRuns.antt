@@ -14,9 +14,10 @@ use Rattle.rules.specs.Odometer.{reportedIn}
 use Rattle.rules.specs.Commands.{carriedOut, withLast, remembered, acceptedOf}
 use Rattle.rules.specs.Refusals.{isStart}
 use Rattle.rules.specs.Calls.{areaFor, areaOf}
+use Rattle.rules.specs.BrakeTest.{isRunning}
 use Rattle.rules.specs.Runs.{Sent, answerTo, stateAfter, momentOf, moments}
 use Rattle.rules.specs.TwoRuns.{Compared, Both, Faster, RefusedAlike, NoServiceFault, NoEmergencyFault, InGear}
-use Rattle.rules.specs.TwoRuns.{UnexpectedStopAlike, Claimed, TwoRuns}
+use Rattle.rules.specs.TwoRuns.{UnexpectedStopAlike, NoTestRuns, Claimed, TwoRuns}
 use Rattle.rules.specs.declared.Answer.{Answer}
 use Rattle.rules.specs.declared.Code.{Code}
 use Rattle.rules.specs.declared.Cause.{Cause}
@@ -24,6 +25,7 @@ use Rattle.rules.specs.declared.State.{State}
 use Rattle.rules.specs.declared.Brakes.{Brakes}
 use Rattle.rules.specs.declared.Kept.{Kept}
 use Rattle.rules.specs.declared.Last.{Last}
+use Rattle.rules.specs.declared.Stage.{Stage}
 use Rattle.rules.specs.declared.Stm.{Stm}
 use Rattle.rules.proofs.Answers.{after-accepted, after-other}
 use Rattle.rules.proofs.Monotone.{same-implies}
@@ -55,14 +57,21 @@ brakes-at-first same alike = rw same (record {
   stop = λ stood. (alike stood, same-implies);
 })
 
-at-first : {u w : Stm} → Compared u w → UnexpectedStopAlike u w → RunsBelow u w
-at-first {u} compared alike = record {
+none-runs : (stage : Stage) → isRunning stage ≡ false → stage ≡ Stage.Idle
+none-runs Stage.Idle e = refl
+none-runs (Stage.Settling phase) e = absurd (false≢true (sym e))
+none-runs (Stage.Braking steady reports) e = absurd (false≢true (sym e))
+
+at-first : {u w : Stm} → Compared u w → UnexpectedStopAlike u w → NoTestRuns u → RunsBelow u w
+at-first {u} compared alike idle = record {
   units = record {
     state = ap (λ control. control .state) (compared .control);
     train = compared .train;
     track = tracks-at-first (compared .track);
     brakes = brakes-at-first (compared .brakes) (λ stood. alike (ap (_|| u .brakes .causes .speed) stood) .0);
     feedback = compared .feedback;
+    idle = none-runs (u .test .stage) idle;
+    idle′ = ap (λ test. test .stage) (compared .test) ∙ none-runs (u .test .stage) idle;
     kept = kept-at-first (compared .kept);
   };
   number = compared .last .number;
@@ -82,6 +91,7 @@ is-odometer Code.EndSection e = absurd (false≢true e)
 is-odometer Code.StopPassed e = absurd (false≢true e)
 is-odometer Code.Proceed e = absurd (false≢true e)
 is-odometer Code.BaliseError e = absurd (false≢true e)
+is-odometer Code.TestBrakes e = absurd (false≢true e)
 
 abbrev IsOdometer : List ℕ → Type 0
 IsOdometer command = codeOf (codeByte command) ≡ Code.Odometer
@@ -108,6 +118,8 @@ last-aside last last′ below = record {
   track = below .track;
   brakes = below .brakes;
   feedback = below .feedback;
+  idle = below .idle;
+  idle′ = below .idle′;
   kept = below .kept;
 }
 
@@ -179,6 +191,8 @@ area-answered Answer.NotAllowed report area e = absurd (false≢true (sym e))
 area-answered Answer.NoReference report area e = absurd (false≢true (sym e))
 area-answered Answer.NotHeld report area e = absurd (false≢true (sym e))
 area-answered Answer.AllHeld report area e = absurd (false≢true (sym e))
+area-answered Answer.OutsideDE report area e = absurd (false≢true (sym e))
+area-answered Answer.TestRunning report area e = absurd (false≢true (sym e))
 
 -- where a command is not refused, the area holds the report that the unit keeps
 area-is : (stm : Stm) (x : Sent) → isRefused (answerTo stm x) ≡ false → momentOf stm x .area ≡ stateAfter stm x .last .report
@@ -211,5 +225,5 @@ runs-compared u w (x ∷ xs) (y ∷ ys) runs faster refused service emergency ge
     )
 
 pub two-runs : TwoRuns
-two-runs u w xs ys compared faster units refused service emergency gear alike =
-    runs-compared u w xs ys (at-first compared alike) faster refused service emergency gear
+two-runs u w xs ys compared faster units refused service emergency gear alike idle =
+    runs-compared u w xs ys (at-first compared alike idle) faster refused service emergency gear

@@ -22,6 +22,7 @@ use Rattle.rules.specs.declared.Brakes.{Brakes}
 use Rattle.rules.specs.declared.Train.{Train}
 use Rattle.rules.specs.declared.Reading.{Reading}
 use Rattle.rules.specs.declared.Seen.{Seen}
+use Rattle.rules.specs.declared.Stage.{Stage}
 use Rattle.rules.specs.declared.Stm.{Stm}
 use Rattle.rules.proofs.Monotone.{_⇒_, equal-implies, and-implies, or-implies}
 use Rattle.rules.proofs.TwoTracks.{TracksBelow, tracks-moved, tracks-noted}
@@ -46,6 +47,9 @@ pub record Below (u w : Stm) : Type 0 where
   pub track : TracksBelow (u .track) (w .track)
   pub brakes : BrakesBelow (u .train .full) (w .train .full) (u .brakes) (w .brakes)
   pub feedback : w .feedback ≡ u .feedback
+  -- no test runs in either
+  pub idle : u .test .stage ≡ Stage.Idle
+  pub idle′ : w .test .stage ≡ Stage.Idle
   pub kept : KeptBelow (u .kept) (w .kept)
 
 -- two readings: the second's speed may be higher, and the controller is not in neutral
@@ -70,6 +74,8 @@ module _ {r r′ : Reading} (readings : ReadingsBelow r r′) {u w : Stm} (below
     track = rw (below .train .length, readings .moved) (tracks-moved (u .train .length) (r .moved) (below .track));
     brakes = below .brakes;
     feedback = below .feedback;
+    idle = below .idle;
+    idle′ = below .idle′;
     kept = below .kept;
   }
 
@@ -81,6 +87,8 @@ module _ {r r′ : Reading} (readings : ReadingsBelow r r′) {u w : Stm} (below
     track = below .track;
     brakes = below .brakes;
     feedback = rw (below .feedback, below .train .feed, below .train .pressure, readings .external);
+    idle = below .idle;
+    idle′ = below .idle′;
     kept = record { speed = readings .speed; loss = readings .loss; text = readings .text; halka = readings .halka };
   }
 
@@ -119,6 +127,8 @@ module _ {r r′ : Reading} (readings : ReadingsBelow r r′) where
     track = tracks-noted (u .train) (w .train) (u .kept) (w .kept) (below .track);
     brakes = brakes-noted (u .train) (w .train) (below .brakes);
     feedback = below .feedback;
+    idle = below .idle;
+    idle′ = below .idle′;
     kept = below .kept;
   }
 
@@ -217,7 +227,9 @@ module _ (loss text : Bool) {u w : Stm} (below : Below u w) (still : isRolled (u
             brakes-settled (seen-below below still) (u .train) (w .train) (isDrop (u .feedback)) (isDrop (w .feedback)) loss text
             (below .brakes) (stop-noted below) (rw e at sound);
         feedback = below .feedback;
-        kept = below .kept;
+        idle = below .idle;
+    idle′ = below .idle′;
+    kept = below .kept;
       })
 
 -- ---- a report, by the state

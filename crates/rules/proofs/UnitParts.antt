@@ -1,4 +1,4 @@
--- A unit by its parts: the train, the track, what brakes, the feedback, and what the state tells of them.
+-- A unit by its parts: the train, the track, what brakes, the feedback, what the state tells of them, and brake test A.
 use mathlib.Core.Path.{_≡_, refl}
 use mathlib.Core.Bool.{Bool, true, false, _||_}
 use lib.Dec.{leb}
@@ -16,17 +16,20 @@ use Rattle.rules.specs.Table.{noCauses, anyStands}
 use Rattle.rules.specs.Releases.{freshBrakes}
 use Rattle.rules.specs.Odometer.{withTrack, withBrakes}
 use Rattle.rules.specs.Commands.{freshKept, freshLast, freshWith, freshStm, noTrain}
-use Rattle.rules.specs.Units.{Reached, IsUnit, FreshIsUnit}
+use Rattle.rules.specs.BrakeTest.{freshTest}
+use Rattle.rules.specs.Units.{Reached, isExtraSound, IsUnit, FreshIsUnit}
 use Rattle.rules.specs.declared.State.{State}
 use Rattle.rules.specs.declared.Train.{Train}
 use Rattle.rules.specs.declared.Track.{Track}
 use Rattle.rules.specs.declared.Brakes.{Brakes}
+use Rattle.rules.specs.declared.Verdict.{Verdict}
 use Rattle.rules.specs.declared.Kept.{Kept}
 use Rattle.rules.specs.declared.Stm.{Stm}
 use Rattle.rules.proofs.Tests.{impossible}
 use Rattle.rules.proofs.SoundTracks.{TrackSound, track-fresh}
 use Rattle.rules.proofs.Counts.{BrakesSound, brakes-fresh}
 use Rattle.rules.proofs.Feedback.{reached-fresh}
+use Rattle.rules.proofs.TestParts.{TestSound}
 
 -- ---- the parts
 
@@ -51,6 +54,7 @@ pub record At (state : State) (brakes : Brakes) (phase : Phase) : Type 0 where
 pub record Parts (stm : Stm) : Type 0 where
   pub body : BodyOf stm
   pub at : At (stm .control .state) (stm .brakes) (stm .feedback .phase)
+  pub test : TestSound (stm .train) (stm .control .state) (stm .test)
 
 pub unit-parts : (stm : Stm) → IsUnit stm → Parts stm
 unit-parts stm u = record {
@@ -65,6 +69,7 @@ unit-parts stm u = record {
     speed = u .speed;
   };
   at = record { braking = u .braking; failed = u .failed; reference = u .reference };
+  test = record { stage = u .stage; extra = u .extra };
 }
 
 pub parts-unit : (stm : Stm) → Parts stm → length (stm .last .bytes) ≡ longest → length (stm .last .report) ≡ reportLength
@@ -79,6 +84,8 @@ parts-unit stm p bytes report =
       sections = b .places .sections .each;
       speed = b .speed;
       feedback = b .reached;
+      stage = p .test .stage;
+      extra = p .test .extra;
       service = b .counts .service;
       emergency = b .counts .emergency;
       hold = b .counts .hold;
@@ -107,9 +114,10 @@ pub fresh-at : (state : State) (phase : Phase) → (isState State.DA state ≡ t
 unfolding freshBrakes noCauses anyStands anyOf
 fresh-at state phase set = record { braking = λ e. impossible e; failed = λ e. impossible e; reference = set }
 
-pub fresh-parts : (started : Bool) (train : Train) → (started ≡ true → trainInRange train ≡ true) → Parts (freshWith started train)
-unfolding freshWith freshKept
-fresh-parts started train range = record {
+pub fresh-parts : (started : Bool) (train : Train) → (started ≡ true → trainInRange train ≡ true)
+    → isExtraSound (train .times .extra) Verdict.Pending ≡ true → Parts (freshWith started train)
+unfolding freshWith freshTest freshKept
+fresh-parts started train range extra = record {
   body = record {
     range = range;
     places = track-fresh (train .length);
@@ -118,8 +126,9 @@ fresh-parts started train range = record {
     speed = refl;
   };
   at = fresh-at State.DE (freshFeedback .phase) (λ e. impossible e);
+  test = record { stage = tt; extra = extra };
 }
 
 pub fresh-is-unit : FreshIsUnit
-unfolding freshStm freshWith freshLast
-fresh-is-unit = parts-unit freshStm (fresh-parts false noTrain (λ e. impossible e)) refl refl
+unfolding freshStm freshWith freshLast noTrain
+fresh-is-unit = parts-unit freshStm (fresh-parts false noTrain (λ e. impossible e) refl) refl refl

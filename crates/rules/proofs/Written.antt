@@ -26,18 +26,21 @@ use Rattle.rules.specs.Speeds.{brakingOf, judgedNow, vmaxOf, permittedSp
 use Rattle.rules.specs.Table.{causes, stands, orderOf, pressedFor, isReleasable, isDropped}
 use Rattle.rules.specs.Odometer.{isInsufficient, seenIn}
 use Rattle.rules.specs.Shows.{candidate, goesBefore, chosen, shownAs, barOf, modeOf}
-use Rattle.rules.specs.Reports.{causesNumber, messagesOf, wouldDrop, offeredOf, isOver, shownFields, changeOf, two, four, reportWith, reportInDA, reportOutside, reportFor, reportOf}
+use Rattle.rules.specs.Reports.{causesNumber, messagesOf, wouldDrop, offeredOf, isOver, shownFields, changeOf, two, four, reportWith, reportInDA, reportOutside, testOrder, reportFor, reportOf}
 use Rattle.rules.specs.Commands.{withLast, remembered, acceptedOf}
+use Rattle.rules.specs.BrakeTest.{isRunning, hasPassed, hasFailed}
 use Rattle.rules.specs.Runs.{Sent, answerTo, stateAfter, momentOf, stateAtEnd}
 use Rattle.rules.specs.History.{Tells, causesIn, permittedIn, vmaxIn, messagesIn, offeredIn}
 use Rattle.rules.specs.History.{isIn, Holds, intervalIn}
 use Rattle.rules.specs.Claims.{UpToSources}
 use Rattle.rules.specs.Columns.{IsFree}
-use Rattle.rules.specs.Written.{Largest, permits, UpToPermitted, Offers, WrittenInDA, ReportInDA, GoesFirst, Shows, ShowsNone, ShownInDA, StateAndOrder, WrittenOutside, ReportOutsideDA, MessagesAreWritten}
+use Rattle.rules.specs.Written.{Largest, permits, UpToPermitted, Offers, WrittenInDA, ReportInDA, GoesFirst, Shows, ShowsNone, ShownInDA, StateAndOrder, WrittenOutside, ReportOutsideDA, orderInTest, runsIn, MessagesTell, MessagesAreWritten}
 use Rattle.rules.specs.declared.State.{State}
 use Rattle.rules.specs.declared.Cause.{Cause}
 use Rattle.rules.specs.declared.Causes.{Causes}
 use Rattle.rules.specs.declared.Seen.{Seen}
+use Rattle.rules.specs.declared.Stage.{Stage}
+use Rattle.rules.specs.declared.Verdict.{Verdict}
 use Rattle.rules.specs.declared.Candidate.{Candidate}
 use Rattle.rules.specs.declared.Last.{Last}
 use Rattle.rules.specs.declared.Stm.{Stm}
@@ -49,7 +52,7 @@ use Rattle.rules.proofs.Ordering.{doneBy}
 use Rattle.rules.proofs.Monotone.{any-in, any-from}
 use Rattle.rules.proofs.Claims.{not-lower-told, held-one, vmax-is-least, permitted-is-least, shown-is-first}
 use Rattle.rules.proofs.Columns.{listed, free-in, tells-by}
-use Rattle.rules.proofs.Bits.{bit-stands, twelve-bits, order-strongest, three-bits, two-bits}
+use Rattle.rules.proofs.Bits.{bit-stands, twelve-bits, order-strongest, six-bits, two-bits}
 
 -- ---- the report that is written is the unit's
 
@@ -108,7 +111,7 @@ module _ (stm : Stm) where
       ∷ fourth (λ c. shownNumber (shownAs c)) 0
       ∷ fourth (λ c. barNumber (barOf (shownAs c))) 0
       ∷ fourth modeOfShown 0
-      ∷ messagesOf (stm .brakes) (stm .feedback)
+      ∷ messagesOf (stm .brakes) (stm .feedback) (stm .test)
       ∷ offeredOf (seenIn stm) (stm .brakes .causes)
       ∷ four (changeOf (stm .train) (stm .kept) shown) [])))
 
@@ -117,7 +120,7 @@ module _ (stm : Stm) where
   da-fields =
       ap (λ shown. 3 ∷ orderNumber (orderOf (stm .train .softly) (stm .brakes .causes))
       ∷ two (causesNumber (stm .brakes .causes)) (two (permittedSpeed vmax judged) (two vmax
-      (shown ++ (messagesOf (stm .brakes) (stm .feedback) ∷ offeredOf (seenIn stm) (stm .brakes .causes)
+      (shown ++ (messagesOf (stm .brakes) (stm .feedback) (stm .test) ∷ offeredOf (seenIn stm) (stm .brakes .causes)
       ∷ four (changeOf (stm .train) (stm .kept) (chosen (stm .track .curves) judged)) [])))))
       (cond-four (shown .judged .held) (shown .curve .id) (shownNumber (shownAs shown)) (barNumber (barOf (shownAs shown)))
       (modeOfShown shown) 255 0 0 0)
@@ -336,12 +339,17 @@ shown-in-da stm x e d =
 
 -- ---- outside DA
 
+test-order : (stage : Stage) → testOrder stage ≡ orderInTest stage
+test-order Stage.Idle = refl
+test-order (Stage.Settling phase) = refl
+test-order (Stage.Braking steady reports) = refl
+
 module _ (stm : Stm) where
   abbrev Outside : State → Type 0
-  Outside state = WrittenOutside state (reportFor state stm)
+  Outside state = WrittenOutside state (stm .test .stage) (reportFor state stm)
 
-  outside : (state : State) (order : ℕ) → StateAndOrder state (reportOutside state order stm)
-      → WrittenOutside state (reportOutside state order stm)
+  outside : (state : State) (order : ℕ) → StateAndOrder state (stm .test .stage) (reportOutside state order stm)
+      → WrittenOutside state (stm .test .stage) (reportOutside state order stm)
   unfolding reportOutside
   outside state order first = record {
     first = first;
@@ -354,7 +362,7 @@ module _ (stm : Stm) where
 
   outside-da : (state : State) → isState State.DA state ≡ false → Outside state
   unfolding reportOutside
-  outside-da State.DE d = outside State.DE 0 (refl, refl)
+  outside-da State.DE d = outside State.DE (testOrder (stm .test .stage)) (refl, test-order (stm .test .stage))
   outside-da State.CS d = outside State.CS 0 (refl, refl)
   outside-da State.HS d = outside State.HS 0 (refl, refl)
   outside-da State.DA d = impossible (sym d)
@@ -388,7 +396,7 @@ report-at-end stm (x ∷ xs) h = report-at-end (stateAfter stm x) xs (kept (isAc
 
 -- ---- messages
 
-messages-in : (stm : Stm) (state : State) → messagesIn (reportFor state stm) ≡ messagesOf (stm .brakes) (stm .feedback)
+messages-in : (stm : Stm) (state : State) → messagesIn (reportFor state stm) ≡ messagesOf (stm .brakes) (stm .feedback) (stm .test)
 unfolding reportOutside
 messages-in stm State.DE = refl
 messages-in stm State.CS = refl
@@ -396,10 +404,45 @@ messages-in stm State.HS = refl
 messages-in stm State.DA = ap messagesIn (da-fields stm)
 messages-in stm State.FA = refl
 
-pub messages-are-written : MessagesAreWritten
+test-runs : (stage : Stage) → isRunning stage ≡ runsIn stage
+test-runs Stage.Idle = refl
+test-runs (Stage.Settling phase) = refl
+test-runs (Stage.Braking steady reports) = refl
+
+-- the result, by its cases
+passed-told : (result : Verdict) → Tells (hasPassed result) (result ≡ Verdict.Passed)
+passed-told result = (go result, λ is. ap hasPassed is)
+  where
+    go : (result : Verdict) → hasPassed result ≡ true → result ≡ Verdict.Passed
+    go Verdict.Pending e = impossible e
+    go Verdict.Passed e = refl
+    go Verdict.Failed e = impossible e
+
+failed-told : (result : Verdict) → Tells (hasFailed result) (result ≡ Verdict.Failed)
+failed-told result = (go result, λ is. ap hasFailed is)
+  where
+    go : (result : Verdict) → hasFailed result ≡ true → result ≡ Verdict.Failed
+    go Verdict.Pending e = impossible e
+    go Verdict.Passed e = impossible e
+    go Verdict.Failed e = refl
+
+pub messages-tell : (stm : Stm) → MessagesTell stm (messagesIn (reportOf stm))
 unfolding reportOf messagesOf
-messages-are-written stm x e =
-    let after = stateAfter stm x in
-    let bits = three-bits (after .brakes .drift) (after .brakes .failed) (after .feedback .fault) in
-    rw (written-is stm x e, messages-in after (after .control .state))
-    (record { drift = bits .0; failed = bits .1; fault = bits .2; most = bits .3 })
+messages-tell stm =
+    let test = stm .test in
+    let bits =
+    six-bits (stm .brakes .drift) (stm .brakes .failed) (stm .feedback .fault) (isRunning (test .stage)) (hasPassed (test .result))
+    (hasFailed (test .result)) in
+    rw (messages-in stm (stm .control .state))
+    (record {
+      drift = bits .first;
+      failed = bits .second;
+      fault = bits .third;
+      running = bits .fourth ∙ test-runs (test .stage);
+      passed = rw (bits .fifth) (passed-told (test .result));
+      failedTest = rw (bits .sixth) (failed-told (test .result));
+      most = bits .most;
+    })
+
+pub messages-are-written : MessagesAreWritten
+messages-are-written stm x e = rw (written-is stm x e) (messages-tell (stateAfter stm x))

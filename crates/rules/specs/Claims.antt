@@ -40,6 +40,7 @@ codes =
     Code.StopPassed ∷
     Code.Proceed ∷
     Code.BaliseError ∷
+    Code.TestBrakes ∷
     []
 
 -- the commands are those of the table "Codes and whole lengths", and each is told by its code

@@ -1,4 +1,4 @@
--- What an accepted command does (01, "Commands", "Answers").
+-- What an accepted command does (01, "Commands", "Answers"; 02, F-3).
 use Prim.Native.Nat.{ℕ, zero, suc}
 use mathlib.Core.Bool.{Bool, true, false, cond}
 use mathlib.Core.List.{List, [], _∷_}
@@ -13,7 +13,8 @@ use Rattle.rules.specs.Numbers.{codeOf, stateOf}
 use Rattle.rules.specs.Operands.{codeByte, trainOf, readingOf, curveOf, sectionOf}
 use Rattle.rules.specs.Places.{freshTrack, withCurves, withSections, withForty, givenCurve, endedCurve, givenSection, endedSection}
 use Rattle.rules.specs.Releases.{freshBrakes, brakesBy}
-use Rattle.rules.specs.Odometer.{withState, withTrack, withBrakes, reportedIn}
+use Rattle.rules.specs.BrakeTest.{freshTest, begunTest, leftTest}
+use Rattle.rules.specs.Odometer.{withState, withTrack, withBrakes, withTest, reportedIn}
 use Rattle.rules.specs.Reports.{reportOf}
 use Rattle.rules.specs.declared.Code.{Code}
 use Rattle.rules.specs.declared.State.{State}
@@ -39,7 +40,7 @@ noTrain = record {
   length = 0;
   full = 0;
   soft = 0;
-  times = record { brake = 0; c = 0; permitted = 0; bf = 0 };
+  times = record { brake = 0; c = 0; permitted = 0; bf = 0; extra = 0 };
   margin = 0;
   emergency = 0;
   sufficient = 0;
@@ -55,6 +56,7 @@ freshWith started train = record {
   track = freshTrack;
   brakes = freshBrakes;
   feedback = freshFeedback;
+  test = freshTest;
   kept = freshKept;
   last = freshLast;
 }
@@ -89,7 +91,8 @@ stopped which stm =
 abbrev pub carriedOut : Code → List ℕ → Stm → Stm
 -- "Start makes everything fresh, in DE"
 carriedOut Code.Start s stm = freshWith true (trainOf s)
-carriedOut Code.ChangeState s stm = entered (stateOf (byteAt s 0)) stm
+-- 02, F-3: "Leaving DE ends an unfinished test as failed": no path leads from DE to DE
+carriedOut Code.ChangeState s stm = withTest (entered (stateOf (byteAt s 0)) stm) (leftTest (stm .test))
 carriedOut Code.Odometer s stm = reportedIn (stm .control .state) (readingOf s) stm
 carriedOut Code.NewCurve s stm = withTrack stm (withCurves (stm .track) (givenCurve (curveOf s) (stm .track .curves)))
 carriedOut Code.EndCurve s stm = withTrack stm (withCurves (stm .track) (endedCurve (byteAt s 0) (stm .track .curves)))
@@ -99,6 +102,8 @@ carriedOut Code.StopPassed s stm = stopped (byteAt s 0) stm
 -- "until a proceed signal"
 carriedOut Code.Proceed s stm = withTrack stm (withForty (stm .track) false)
 carriedOut Code.BaliseError s stm = withBrakes stm (brakesBy Code.BaliseError 0 (stm .kept .speed) (stm .brakes))
+-- 02, F-3: "New command 40 (5 bytes) starts the test in DE"
+carriedOut Code.TestBrakes s stm = withTest stm (begunTest (stm .test))
 
 -- ---- what is remembered of it
 
@@ -114,6 +119,7 @@ withLast stm last = record {
   track = stm .track;
   brakes = stm .brakes;
   feedback = stm .feedback;
+  test = stm .test;
   kept = stm .kept;
   last = last;
 }

@@ -16,6 +16,8 @@ use Rattle.rules.specs.declared.Cause.{Cause}
 use Rattle.rules.specs.declared.Hold.{Hold}
 use Rattle.rules.specs.declared.Check.{Check}
 use Rattle.rules.specs.declared.Roll.{Roll}
+use Rattle.rules.specs.declared.Stage.{Stage}
+use Rattle.rules.specs.declared.Verdict.{Verdict}
 use Rattle.rules.specs.declared.Stm.{Stm}
 
 -- no curve, no section, no 40; no cause, nothing noted, no hold, no check begun, nothing rolled, no brake fault
@@ -42,6 +44,9 @@ pub record IsFresh (stm : Stm) : Type 0 where
   pub pressure : stm .feedback .pressures .pressure ≡ kPa 0
   pub reference : stm .feedback .pressures .reference ≡ kPa 0
   pub fault : stm .feedback .fault ≡ false
+  -- 02, F-3: no test runs, and none has ended
+  pub stage : stm .test .stage ≡ Stage.Idle
+  pub result : stm .test .result ≡ Verdict.Pending
   pub speed : stm .kept .speed ≡ 0
   pub loss : stm .kept .loss ≡ true
   pub text : stm .kept .text ≡ true

@@ -6,6 +6,7 @@ pub mod Hold
 pub mod Table
 pub mod Checks
 pub mod Releases
+pub mod BrakeTest
 pub mod Odometer
 pub mod Shows
 pub mod Reports
@@ -30,6 +31,7 @@ pub mod Written
 pub mod Units
 pub mod Changes
 pub mod TwoRuns
+pub mod TestRuns
 pub mod Figures
 pub mod Pairs
 pub mod Tables

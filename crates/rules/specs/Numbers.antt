@@ -10,7 +10,7 @@ use Rattle.rules.specs.declared.Order.{Order}
 use Rattle.rules.specs.declared.Bar.{Bar}
 use Rattle.rules.specs.declared.Mode.{Mode}
 
--- "Answers": "0 accepted. 100 again", and the list 1 to 13
+-- "Answers": "0 accepted. 100 again", and the list 1 to 13; 02, F-3: "Errors: 14, test asked outside DE; 15, test already running"
 abbrev pub answerNumber : Answer → ℕ
 answerNumber Answer.Accepted = 0
 answerNumber Answer.Again = 100
@@ -27,6 +27,8 @@ answerNumber Answer.NotAllowed = 10
 answerNumber Answer.NoReference = 11
 answerNumber Answer.NotHeld = 12
 answerNumber Answer.AllHeld = 13
+answerNumber Answer.OutsideDE = 14
+answerNumber Answer.TestRunning = 15
 
 -- accepted; accepted or again; refused
 abbrev pub isAccepted : Answer → Bool
@@ -38,7 +40,7 @@ isAnswered answer = isAccepted answer || eqb (answerNumber answer) 100
 abbrev pub isRefused : Answer → Bool
 isRefused answer = not (isAnswered answer)
 
--- "Commands", the column Code
+-- "Commands", the column Code; 02, F-3: "New command 40"
 abbrev pub codeNumber : Code → ℕ
 codeNumber Code.Start = 0x01
 codeNumber Code.ChangeState = 0x02
@@ -50,6 +52,7 @@ codeNumber Code.EndSection = 0x23
 codeNumber Code.StopPassed = 0x30
 codeNumber Code.Proceed = 0x31
 codeNumber Code.BaliseError = 0x32
+codeNumber Code.TestBrakes = 0x40
 
 -- the command of a byte that is a code; refusal 3 has gone before
 unfoldable pub codeOf : ℕ → Code
@@ -62,7 +65,8 @@ codeOf byte =
     (cond (eqb byte 0x22) Code.NewSection
     (cond (eqb byte 0x23) Code.EndSection
     (cond (eqb byte 0x30) Code.StopPassed
-    (cond (eqb byte 0x31) Code.Proceed Code.BaliseError))))))))
+    (cond (eqb byte 0x31) Code.Proceed
+    (cond (eqb byte 0x32) Code.BaliseError Code.TestBrakes)))))))))
 
 -- a command is this one
 abbrev pub isCode : Code → Code → Bool

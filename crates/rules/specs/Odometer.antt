@@ -1,5 +1,5 @@
 -- An odometer report (01, "Causes and release": "An odometer report in DA moves, measures, adds causes, then releases. In HS it moves
--- and measures, in DE and CS it only measures; each keeps its figures and buttons.").
+-- and measures, in DE and CS it only measures; each keeps its figures and buttons."; 02, F-3).
 use Prim.Native.Nat.{ℕ}
 use mathlib.Core.Bool.{Bool, cond, not, _&&_}
 use mathlib.Core.List.{List}
@@ -14,6 +14,7 @@ use Rattle.places.specs.Places.{notedAll, anyBrakes}
 use Rattle.rules.specs.Places.{withCurves, movedTrack}
 use Rattle.rules.specs.Speeds.{judgedNow, vmaxOf}
 use Rattle.rules.specs.Checks.{isDrop}
+use Rattle.rules.specs.BrakeTest.{testedAt, extraLeft}
 use Rattle.rules.specs.Releases.{isRolled, notedBrakes, addedBrakes, releasedBrakes}
 use Rattle.rules.specs.declared.State.{State}
 use Rattle.rules.specs.declared.Train.{Train}
@@ -21,6 +22,7 @@ use Rattle.rules.specs.declared.Track.{Track}
 use Rattle.rules.specs.declared.Since.{Since}
 use Rattle.rules.specs.declared.Roll.{Roll}
 use Rattle.rules.specs.declared.Brakes.{Brakes}
+use Rattle.rules.specs.declared.BrakeTest.{BrakeTest}
 use Rattle.rules.specs.declared.Kept.{Kept}
 use Rattle.rules.specs.declared.Stm.{Stm}
 use Rattle.rules.specs.declared.Reading.{Reading}
@@ -35,6 +37,7 @@ withState stm state = record {
   track = stm .track;
   brakes = stm .brakes;
   feedback = stm .feedback;
+  test = stm .test;
   kept = stm .kept;
   last = stm .last;
 }
@@ -46,6 +49,7 @@ withTrack stm track = record {
   track = track;
   brakes = stm .brakes;
   feedback = stm .feedback;
+  test = stm .test;
   kept = stm .kept;
   last = stm .last;
 }
@@ -57,6 +61,7 @@ withBrakes stm brakes = record {
   track = stm .track;
   brakes = brakes;
   feedback = stm .feedback;
+  test = stm .test;
   kept = stm .kept;
   last = stm .last;
 }
@@ -68,7 +73,55 @@ withMeasured stm feedback kept = record {
   track = stm .track;
   brakes = stm .brakes;
   feedback = feedback;
+  test = stm .test;
   kept = kept;
+  last = stm .last;
+}
+
+abbrev pub withTest : Stm → BrakeTest → Stm
+withTest stm test = record {
+  control = stm .control;
+  train = stm .train;
+  track = stm .track;
+  brakes = stm .brakes;
+  feedback = stm .feedback;
+  test = test;
+  kept = stm .kept;
+  last = stm .last;
+}
+
+-- another extra in the train's leads
+abbrev pub withExtra : Train → ℕ → Train
+withExtra train extra = record {
+  softly = train .softly;
+  feed = train .feed;
+  speed = train .speed;
+  length = train .length;
+  full = train .full;
+  soft = train .soft;
+  times = record {
+    brake = train .times .brake;
+    c = train .times .c;
+    permitted = train .times .permitted;
+    bf = train .times .bf;
+    extra = extra;
+  };
+  margin = train .margin;
+  emergency = train .emergency;
+  sufficient = train .sufficient;
+  pressure = train .pressure;
+  check = train .check;
+}
+
+abbrev pub withTrain : Stm → Train → Stm
+withTrain stm train = record {
+  control = stm .control;
+  train = train;
+  track = stm .track;
+  brakes = stm .brakes;
+  feedback = stm .feedback;
+  test = stm .test;
+  kept = stm .kept;
   last = stm .last;
 }
 
@@ -143,9 +196,16 @@ unfoldable pub supervised : Reading → Stm → Stm
 supervised r stm =
     releases (isFresh (stm .kept .loss) (r .loss)) (isFresh (stm .kept .text) (r .text)) (adds (notes r (measures r (moves r stm))))
 
+-- in DE, once it has measured: 02, F-3; with a test that has passed the extra goes
+abbrev pub withTested : Stm → BrakeTest → Stm
+withTested stm test = withTest (withTrain stm (withExtra (stm .train) (extraLeft (test .result) (stm .train .times .extra)))) test
+
+abbrev pub tests : Reading → Stm → Stm
+tests r stm = withTested stm (testedAt (stm .train) (stm .feedback) r (stm .test))
+
 -- by the state; in FA no report is taken (refusal 8)
 abbrev pub reportedIn : State → Reading → Stm → Stm
-reportedIn State.DE r stm = measures r stm
+reportedIn State.DE r stm = tests r (measures r stm)
 reportedIn State.CS r stm = measures r stm
 reportedIn State.HS r stm = measures r (moves r stm)
 reportedIn State.DA r stm = supervised r stm

@@ -42,6 +42,11 @@ abbrev pub feedOf : Bool → Feed
 feedOf true = Feed.Cylinder
 feedOf false = Feed.Pipe
 
+-- 02, F-3: "A new start flag, bit 2, says that no approved ETCS test exists; the unit then adds an extra 50 tenths"
+abbrev pub extraOf : Bool → ℕ
+extraOf true = 50
+extraOf false = 0
+
 unfoldable pub trainOf : List ℕ → Train
 trainOf s = record {
   softly = bitOf 0 (byteAt s 0);
@@ -50,7 +55,13 @@ trainOf s = record {
   length = twoAt s 3;
   full = twoAt s 5;
   soft = twoAt s 7;
-  times = record { brake = byteAt s 9; c = byteAt s 10; permitted = byteAt s 11; bf = byteAt s 12 };
+  times = record {
+    brake = byteAt s 9;
+    c = byteAt s 10;
+    permitted = byteAt s 11;
+    bf = byteAt s 12;
+    extra = extraOf (bitOf 2 (byteAt s 0));
+  };
   margin = byteAt s 13;
   emergency = byteAt s 14;
   sufficient = byteAt s 15;
@@ -79,9 +90,9 @@ trainInRange train =
     && within 150 600 (train .pressure)
     && within 1 100 (train .check)
 
--- "flags 1 (bit 0 .., bit 1 ..; others 0)", and the figures
+-- "flags 1 (bit 0 .., bit 1 ..; others 0)", 02, F-3: "bit 2"; and the figures
 unfoldable pub startInRange : List ℕ → Bool
-startInRange s = leb (byteAt s 0) 3 && trainInRange (trainOf s)
+startInRange s = leb (byteAt s 0) 7 && trainInRange (trainOf s)
 
 -- ---- 10 odometer
 
@@ -165,3 +176,4 @@ inRange Code.EndSection s = leb (byteAt s 0) 254
 inRange Code.StopPassed s = leb (byteAt s 0) 2
 inRange Code.Proceed s = true
 inRange Code.BaliseError s = true
+inRange Code.TestBrakes s = true

@@ -6,6 +6,7 @@ use mathlib.Core.List.{List}
 use Rattle.wire.specs.Form.{operandsOf}
 use Rattle.rules.specs.Numbers.{isAccepted}
 use Rattle.rules.specs.Operands.{trainOf}
+use Rattle.rules.specs.Odometer.{withExtra}
 use Rattle.rules.specs.Runs.{Sent, answerTo, stateAfter, stateAtEnd, noneAccepted, isOf}
 use Rattle.rules.specs.History.{speedOf, externalOf, buttonOf, isReport, collected}
 use Rattle.rules.specs.Units.{feedbackAfter}
@@ -32,11 +33,11 @@ FiguresStay =
     → stateAtEnd stm xs .kept ≡ stm .kept
 
 -- every report measures: over any list with no start the feedback is what P_EXT of the accepted reports leads it to, and the train is
--- that of the start
+-- that of the start but for the extra of 02, F-3, of which TestRuns tells
 abbrev pub FeedbackOverReports : Type 0
 FeedbackOverReports =
     (stm : Stm) (xs : List Sent)
     → noneAccepted (λ before command. isOf Code.Start command) stm xs ≡ true
     → (stateAtEnd stm xs .feedback
     ≡ feedbackAfter (stm .train) (stm .feedback) (collected (λ before. isReport) (λ before x. externalOf (x .command)) stm xs))
-    × (stateAtEnd stm xs .train ≡ stm .train)
+    × (stateAtEnd stm xs .train ≡ withExtra (stm .train) (stateAtEnd stm xs .train .times .extra))

@@ -1,4 +1,4 @@
--- The refusals (01, "Answers": "Checked in this order").
+-- The refusals (01, "Answers": "Checked in this order"; 02, F-3).
 use Prim.Native.Nat.{ℕ, _+_}
 use mathlib.Core.Bool.{Bool, true, cond, not, _&&_, _||_}
 use mathlib.Core.List.{List, [], _∷_}
@@ -12,6 +12,7 @@ use Rattle.pressure.specs.Phases.{isSet}
 use Rattle.rules.specs.Numbers.{isCode, isState, codeOf, stateOf}
 use Rattle.rules.specs.Operands.{codeByte, numberOf, inRange}
 use Rattle.rules.specs.Places.{holdsCurve, allCurvesHeld, holdsSection, standsSection, allSectionsHeld}
+use Rattle.rules.specs.BrakeTest.{isRunning}
 use Rattle.rules.specs.Commands.{padded}
 use Rattle.rules.specs.declared.Answer.{Answer}
 use Rattle.rules.specs.declared.Code.{Code}
@@ -52,6 +53,8 @@ isAllowed state Code.EndSection s = isState State.HS state || isState State.DA s
 isAllowed state Code.StopPassed s = isState State.DA state
 isAllowed state Code.Proceed s = isState State.HS state || isState State.DA state
 isAllowed state Code.BaliseError s = isState State.DA state
+-- 02, F-3: outside DE it is 14
+isAllowed state Code.TestBrakes s = true
 
 -- "DA is ordered"
 abbrev pub ordersDA : Code → List ℕ → Bool
@@ -71,6 +74,13 @@ findsNoPlace stm code s =
     && not (holdsSection (byteAt s 0) (stm .track .sections))
     && allSectionsHeld (stm .track .sections)
 
+-- 02, F-3: "14, test asked outside DE; 15, test already running"
+unfoldable pub testsOutside : Stm → Code → Bool
+testsOutside stm code = isCode Code.TestBrakes code && not (isState State.DE (stm .control .state))
+
+unfoldable pub testsTwice : Stm → Code → Bool
+testsTwice stm code = isCode Code.TestBrakes code && isRunning (stm .test .stage)
+
 -- ---- the list
 
 -- an answer, and when it is given
@@ -86,7 +96,7 @@ abbrev pub firstOf : List Rule → Answer
 firstOf [] = Answer.Accepted
 firstOf (r ∷ rs) = cond (r .applies) (r .answer) (firstOf rs)
 
--- 5 to 8; "This is the answer once 1–8 are passed"; 9 to 13
+-- 5 to 8; "This is the answer once 1–8 are passed"; 9 to 13; 02, F-3: 14 and 15, "both after 10"
 unfoldable pub rulesFor : Stm → List ℕ → Code → List ℕ → List Rule
 rulesFor stm command code s =
     rule (not (stm .control .started) && not (isStart command)) Answer.NotStarted
@@ -99,6 +109,8 @@ rulesFor stm command code s =
     ∷ rule (ordersDA code s && not (isSet (stm .feedback .phase))) Answer.NoReference
     ∷ rule (endsNothing stm code s) Answer.NotHeld
     ∷ rule (findsNoPlace stm code s) Answer.AllHeld
+    ∷ rule (testsOutside stm code) Answer.OutsideDE
+    ∷ rule (testsTwice stm code) Answer.TestRunning
     ∷ []
 
 -- the answer to a command that passes 1 to 4

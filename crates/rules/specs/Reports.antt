@@ -1,4 +1,4 @@
--- The report (01, "Report"; 02, F-1).
+-- The report (01, "Report"; 02, F-1 and F-3).
 use Prim.Native.Nat.{ℕ, _+_, _^_}
 use mathlib.Core.Bool.{Bool, true, false, cond, _&&_}
 use mathlib.Core.List.{List, [], _∷_, _++_, map, foldr}
@@ -13,12 +13,16 @@ use Rattle.rules.specs.Numbers.{stateNumber, orderNumber, barNumber, mod
 use Rattle.rules.specs.Places.{anyOf}
 use Rattle.rules.specs.Speeds.{brakingOf, judgedNow, vmaxOf, permittedSpeed}
 use Rattle.rules.specs.Table.{causes, stands, orderOf, isDropped}
+use Rattle.rules.specs.BrakeTest.{isRunning, isTestBraking, hasPassed, hasFailed}
 use Rattle.rules.specs.Shows.{chosen, shownAs, barOf, modeOf}
 use Rattle.rules.specs.Odometer.{isInsufficient, seenIn}
 use Rattle.rules.specs.declared.State.{State}
 use Rattle.rules.specs.declared.Train.{Train}
 use Rattle.rules.specs.declared.Causes.{Causes}
 use Rattle.rules.specs.declared.Brakes.{Brakes}
+use Rattle.rules.specs.declared.Order.{Order}
+use Rattle.rules.specs.declared.Stage.{Stage}
+use Rattle.rules.specs.declared.BrakeTest.{BrakeTest}
 use Rattle.rules.specs.declared.Kept.{Kept}
 use Rattle.rules.specs.declared.Seen.{Seen}
 use Rattle.rules.specs.declared.Candidate.{Candidate}
@@ -32,9 +36,16 @@ bitValue set bit = cond set (2 ^ bit) 0
 unfoldable pub causesNumber : Causes → ℕ
 causesNumber c = foldr _+_ 0 (map (λ cause. bitValue (stands c cause) (bitNumber cause)) causes)
 
--- "messages (bit 0 DRIFTBROMSFEL, 1 NÖDBROMSFEL, 2 TRYCKGIVARFEL at the last odometer report)"
-unfoldable pub messagesOf : Brakes → Measured → ℕ
-messagesOf b feedback = bitValue (b .drift) 0 + bitValue (b .failed) 1 + bitValue (feedback .fault) 2
+-- "messages (bit 0 DRIFTBROMSFEL, 1 NÖDBROMSFEL, 2 TRYCKGIVARFEL at the last odometer report)"; 02, F-3: "The messages gain bit 3
+-- running, bit 4 last test passed, bit 5 last test failed"
+unfoldable pub messagesOf : Brakes → Measured → BrakeTest → ℕ
+messagesOf b feedback test =
+    bitValue (b .drift) 0
+    + bitValue (b .failed) 1
+    + bitValue (feedback .fault) 2
+    + bitValue (isRunning (test .stage)) 3
+    + bitValue (hasPassed (test .result)) 4
+    + bitValue (hasFailed (test .result)) 5
 
 -- "release offered (1 if a fresh LOSS would drop a cause, plus 2 if a fresh text would)"
 abbrev pub wouldDrop : Seen → Bool → Bool → Causes → Bool
@@ -83,7 +94,7 @@ reportWith judged vmax shown seen stm =
     fields (stateNumber State.DA) (orderNumber (orderOf (stm .train .softly) (stm .brakes .causes)))
     (causesNumber (stm .brakes .causes)) (permittedSpeed vmax judged) vmax
     (shownFields (isOver (stm .train) (stm .kept) shown) (isInsufficient (stm .train) (stm .feedback)) shown)
-    (messagesOf (stm .brakes) (stm .feedback))
+    (messagesOf (stm .brakes) (stm .feedback) (stm .test))
     (offeredOf seen (stm .brakes .causes))
     (changeOf (stm .train) (stm .kept) shown)
 
@@ -95,10 +106,14 @@ reportInDA stm =
 -- "Outside DA order is 0 (FA: 3), id 255, messages as standing, the rest 0"; 02, F-1: FFFFFFFF "outside DA too"
 unfoldable pub reportOutside : State → ℕ → Stm → List ℕ
 reportOutside state order stm =
-    fields (stateNumber state) order 0 0 0 (255 ∷ 0 ∷ 0 ∷ 0 ∷ []) (messagesOf (stm .brakes) (stm .feedback)) 0 never
+    fields (stateNumber state) order 0 0 0 (255 ∷ 0 ∷ 0 ∷ 0 ∷ []) (messagesOf (stm .brakes) (stm .feedback) (stm .test)) 0 never
+
+-- 02, F-3: "the report shows order 2 in DE while the test brakes"
+abbrev pub testOrder : Stage → ℕ
+testOrder stage = orderNumber (cond (isTestBraking stage) Order.Full Order.Nothing)
 
 abbrev pub reportFor : State → Stm → List ℕ
-reportFor State.DE stm = reportOutside State.DE 0 stm
+reportFor State.DE stm = reportOutside State.DE (testOrder (stm .test .stage)) stm
 reportFor State.CS stm = reportOutside State.CS 0 stm
 reportFor State.HS stm = reportOutside State.HS 0 stm
 reportFor State.DA stm = reportInDA stm

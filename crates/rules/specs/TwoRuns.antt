@@ -13,6 +13,7 @@ use Rattle.rules.specs.Numbers.{answerNumber, isRefused}
 use Rattle.rules.specs.Operands.{codeByte, numberOf, twoAt, bitOf}
 use Rattle.rules.specs.Places.{holdsCurve}
 use Rattle.rules.specs.Table.{stands}
+use Rattle.rules.specs.BrakeTest.{isRunning}
 use Rattle.rules.specs.Runs.{Sent, Moment, moments, isOf}
 use Rattle.rules.specs.History.{permittedIn, orderIn, changeIn, Holds, HoldsSection, intervalIn}
 use Rattle.rules.specs.Units.{IsUnit}
@@ -34,6 +35,7 @@ pub record TrainsCompared (train train′ : Train) : Type 0 where
   pub length : train′ .length ≡ train .length
   pub full : train′ .full ≤ train .full
   pub soft : train′ .soft ≤ train .soft
+  -- T_B and the gaps; 02, F-3: "the extra is equal in both"
   pub times : train′ .times ≡ train .times
   pub margin : train′ .margin ≡ train .margin
   pub emergency : train′ .emergency ≡ train .emergency
@@ -68,6 +70,8 @@ pub record Compared (u w : Stm) : Type 0 where
   -- causes, notes and checks; 02, F-2: bit 9 is held alike
   pub brakes : w .brakes ≡ u .brakes
   pub feedback : w .feedback ≡ u .feedback
+  -- 02, F-3
+  pub test : w .test ≡ u .test
   pub kept : w .kept ≡ u .kept
   pub last : LastsCompared (u .last) (w .last)
 
@@ -113,6 +117,11 @@ UnexpectedStopAlike u w =
     (stands (u .brakes .causes) Cause.UnexpectedStop || stands (u .brakes .causes) Cause.UnexpectedSpeed) ≡ true
     → (w .train .full ≡ u .train .full) × (w .train .soft ≡ u .train .soft)
 
+-- 02, F-3: "When two units are compared the extra is equal in both and no test runs": the extra is one of the train's times, and the
+-- test of the second is that of the first
+abbrev pub NoTestRuns : Stm → Type 0
+NoTestRuns u = isRunning (u .test .stage) ≡ false
+
 -- a presumption that is made, or left out
 abbrev pub Presumed : Bool → Type 0 → Type 0
 Presumed true P = P
@@ -134,8 +143,8 @@ abbrev pub Claimed : Moment → Moment → Type 0
 Claimed m n = isRefused (m .answer) ≡ false → isRefused (n .answer) ≡ false → NotMilder m n
 
 -- the claim, with the presumptions that are made
-abbrev pub ClaimGiven : (units refusals service emergency gear stops : Bool) → Type 0
-ClaimGiven units refusals service emergency gear stops =
+abbrev pub ClaimGiven : (units refusals service emergency gear stops tests : Bool) → Type 0
+ClaimGiven units refusals service emergency gear stops tests =
     (u w : Stm) (xs ys : List Sent)
     → Compared u w → Both Faster xs ys
     → Presumed units (IsUnit u × IsUnit w)
@@ -144,6 +153,7 @@ ClaimGiven units refusals service emergency gear stops =
     → Presumed emergency (Both NoEmergencyFault (moments u xs) (moments w ys))
     → Presumed gear (Both InGear xs ys)
     → Presumed stops (UnexpectedStopAlike u w)
+    → Presumed tests (NoTestRuns u)
     → Both Claimed (moments u xs) (moments w ys)
 
 -- point 3, whole. It holds of any two states compared, and so of any two units. Not needed by the proof, though presumed in the words:
@@ -151,24 +161,27 @@ ClaimGiven units refusals service emergency gear stops =
 -- stop brakes, equal soft decelerations, and anything of bit 7. Nor is it needed that past in B, the last command's code, the rolled
 -- ground, the checks, the messages and T_EBCHK are equal
 abbrev pub TwoRuns : Type 0
-TwoRuns = ClaimGiven false true true true true true
+TwoRuns = ClaimGiven false true true true true true true
 
 -- ---- each presumption is needed, of units too
 
 abbrev pub RefusalsAreNeeded : Type 0
-RefusalsAreNeeded = ClaimGiven true false true true true true → ⊥
+RefusalsAreNeeded = ClaimGiven true false true true true true true → ⊥
 
 abbrev pub NoServiceFaultIsNeeded : Type 0
-NoServiceFaultIsNeeded = ClaimGiven true true false true true true → ⊥
+NoServiceFaultIsNeeded = ClaimGiven true true false true true true true → ⊥
 
 abbrev pub NoEmergencyFaultIsNeeded : Type 0
-NoEmergencyFaultIsNeeded = ClaimGiven true true true false true true → ⊥
+NoEmergencyFaultIsNeeded = ClaimGiven true true true false true true true → ⊥
 
 abbrev pub GearIsNeeded : Type 0
-GearIsNeeded = ClaimGiven true true true true false true → ⊥
+GearIsNeeded = ClaimGiven true true true true false true true → ⊥
 
 abbrev pub StopsAreNeeded : Type 0
-StopsAreNeeded = ClaimGiven true true true true true false → ⊥
+StopsAreNeeded = ClaimGiven true true true true true false true → ⊥
+
+abbrev pub NoTestIsNeeded : Type 0
+NoTestIsNeeded = ClaimGiven true true true true true true false → ⊥
 
 -- ---- the claim is not empty
 
@@ -194,6 +207,7 @@ pub record BrakesHarder : Type 0 where
   pub emergency : Both NoEmergencyFault (moments u xs) (moments w ys)
   pub gear : Both InGear xs ys
   pub stops : UnexpectedStopAlike u w
+  pub tests : NoTestRuns u
   pub answers : answersIn (moments u xs) ≡ (0 ∷ 100 ∷ 0 ∷ [])
   pub answers′ : answersIn (moments w ys) ≡ (0 ∷ 100 ∷ 0 ∷ [])
   pub first : ordersIn (moments u xs) ≡ (0 ∷ 0 ∷ 0 ∷ [])
@@ -212,5 +226,6 @@ FigureMayBeLarger =
     → Both NoEmergencyFault (moments u xs) (moments w ys)
     → Both InGear xs ys
     → UnexpectedStopAlike u w
+    → NoTestRuns u
     → Both (λ m n. changeIn (n .area) ≤ changeIn (m .area)) (moments u xs) (moments w ys))
     → ⊥

@@ -9,6 +9,7 @@ use lib.IntN.{ℤ}
 use lib.ListN.{length}
 use Rattle.wire.specs.Codes.{longest}
 use Rattle.wire.specs.Form.{reportLength}
+use Rattle.pressure.specs.declared.Phase.{Phase}
 use Rattle.pressure.specs.declared.Measured.{Measured}
 use Rattle.pressure.specs.Exact.{SixteenBits}
 use Rattle.pressure.specs.Phases.{isSet}
@@ -27,6 +28,8 @@ use Rattle.rules.specs.declared.Order.{Order}
 use Rattle.rules.specs.declared.Hold.{Hold}
 use Rattle.rules.specs.declared.Check.{Check}
 use Rattle.rules.specs.declared.Roll.{Roll}
+use Rattle.rules.specs.declared.Stage.{Stage}
+use Rattle.rules.specs.declared.Verdict.{Verdict}
 use Rattle.rules.specs.declared.Section.{Section}
 use Rattle.rules.specs.declared.Stm.{Stm}
 use Rattle.rules.specs.declared.Train.{Train}
@@ -83,6 +86,28 @@ pub record Reached (train : Train) (feedback : Measured) : Type 0 where
   pub width : Each SixteenBits readings
   pub led : feedback ≡ feedbackAfter train freshFeedback readings
 
+-- ---- brake test A (02, F-3)
+
+-- some readings lead the feedback's rule, begun afresh, to this phase
+pub record LeadsTo (train : Train) (phase : Phase) : Type 0 where
+  pub readings : List ℤ
+  pub width : Each SixteenBits readings
+  pub led : feedbackAfter train freshFeedback readings .phase ≡ phase
+
+-- a test runs in DE only; some readings have led to its phase, which is not set yet, or to its steady pressure; its count is below T_B
+abbrev pub StageSound : Train → State → Stage → Type 0
+StageSound train state Stage.Idle = Unit {0}
+StageSound train state (Stage.Settling phase) =
+    (isState State.DE state ≡ true) × (isSet phase ≡ false) × LeadsTo train phase
+StageSound train state (Stage.Braking steady reports) =
+    (isState State.DE state ≡ true) × (ltb reports (train .times .brake) ≡ true) × LeadsTo train (Phase.Set steady 0)
+
+-- the extra is 50 or 0, and 0 where the last test that ended has passed
+abbrev pub isExtraSound : ℕ → Verdict → Bool
+isExtraSound extra Verdict.Pending = eqb extra 0 || eqb extra 50
+isExtraSound extra Verdict.Passed = eqb extra 0
+isExtraSound extra Verdict.Failed = eqb extra 0 || eqb extra 50
+
 -- ---- a unit
 
 pub record IsUnit (stm : Stm) : Type 0 where
@@ -95,6 +120,8 @@ pub record IsUnit (stm : Stm) : Type 0 where
   pub sections : allOf (isSectionSound (stm .train .length)) (stm .track .sections) ≡ true
   pub speed : leb (stm .kept .speed) 10000 ≡ true
   pub feedback : Reached (stm .train) (stm .feedback)
+  pub stage : StageSound (stm .train) (stm .control .state) (stm .test .stage)
+  pub extra : isExtraSound (stm .train .times .extra) (stm .test .result) ≡ true
   -- "counts as commands can leave them"
   pub service : isCheckSound (anyStands (stm .brakes .causes)) (stm .train .times .brake) (stm .brakes .service) ≡ true
   pub emergency :

@@ -1,4 +1,4 @@
--- What the bytes of a report say of the unit (01, "Report"; 02, F-1). Proved in proofs/.
+-- What the bytes of a report say of the unit (01, "Report"; 02, F-1 and F-3). Proved in proofs/.
 use mathlib.Core.Path.{_≡_}
 use Prim.Native.Nat.{ℕ, max, _≤_, _<_}
 use mathlib.Core.Bool.{Bool, true, false, cond, _||_}
@@ -25,6 +25,8 @@ use Rattle.rules.specs.Ground.{namesCurve}
 use Rattle.rules.specs.Columns.{isShort, IsFree}
 use Rattle.rules.specs.declared.State.{State}
 use Rattle.rules.specs.declared.Cause.{Cause}
+use Rattle.rules.specs.declared.Stage.{Stage}
+use Rattle.rules.specs.declared.Verdict.{Verdict}
 use Rattle.rules.specs.declared.Stm.{Stm}
 
 -- the largest number of which something holds
@@ -148,16 +150,22 @@ ShownInDA =
 
 -- ---- outside DA
 
--- "Outside DA order is 0 (FA: 3), id 255, messages as standing, the rest 0"
-abbrev pub StateAndOrder : State → List ℕ → Type 0
-StateAndOrder State.DE report = (stateIn report ≡ 0) × (orderIn report ≡ 0)
-StateAndOrder State.CS report = (stateIn report ≡ 1) × (orderIn report ≡ 0)
-StateAndOrder State.HS report = (stateIn report ≡ 2) × (orderIn report ≡ 0)
-StateAndOrder State.DA report = ⊥
-StateAndOrder State.FA report = (stateIn report ≡ 4) × (orderIn report ≡ 3)
+-- 02, F-3: "the report shows order 2 in DE while the test brakes"
+abbrev pub orderInTest : Stage → ℕ
+orderInTest Stage.Idle = 0
+orderInTest (Stage.Settling phase) = 0
+orderInTest (Stage.Braking steady reports) = 2
 
-pub record WrittenOutside (state : State) (report : List ℕ) : Type 0 where
-  pub first : StateAndOrder state report
+-- "Outside DA order is 0 (FA: 3), id 255, messages as standing, the rest 0"
+abbrev pub StateAndOrder : State → Stage → List ℕ → Type 0
+StateAndOrder State.DE stage report = (stateIn report ≡ 0) × (orderIn report ≡ orderInTest stage)
+StateAndOrder State.CS stage report = (stateIn report ≡ 1) × (orderIn report ≡ 0)
+StateAndOrder State.HS stage report = (stateIn report ≡ 2) × (orderIn report ≡ 0)
+StateAndOrder State.DA stage report = ⊥
+StateAndOrder State.FA stage report = (stateIn report ≡ 4) × (orderIn report ≡ 3)
+
+pub record WrittenOutside (state : State) (stage : Stage) (report : List ℕ) : Type 0 where
+  pub first : StateAndOrder state stage report
   pub causes : causesIn report ≡ 0
   pub permitted : permittedIn report ≡ 0
   pub vmax : vmaxIn report ≡ 0
@@ -168,16 +176,26 @@ abbrev pub ReportOutsideDA : Type 0
 ReportOutsideDA =
     (stm : Stm) (x : Sent)
     → isAccepted (answerTo stm x) ≡ true → isIn State.DA (stateAfter stm x) ≡ false
-    → WrittenOutside (stateAfter stm x .control .state) (momentOf stm x .area)
+    → WrittenOutside (stateAfter stm x .control .state) (stateAfter stm x .test .stage) (momentOf stm x .area)
 
 -- ---- the messages, in every state
 
--- "bit 0 DRIFTBROMSFEL, 1 NÖDBROMSFEL, 2 TRYCKGIVARFEL at the last odometer report"
+-- 02, F-3: a test runs
+abbrev pub runsIn : Stage → Bool
+runsIn Stage.Idle = false
+runsIn (Stage.Settling phase) = true
+runsIn (Stage.Braking steady reports) = true
+
+-- "bit 0 DRIFTBROMSFEL, 1 NÖDBROMSFEL, 2 TRYCKGIVARFEL at the last odometer report"; 02, F-3: "bit 3 running, bit 4 last test passed,
+-- bit 5 last test failed"
 pub record MessagesTell (stm : Stm) (messages : ℕ) : Type 0 where
   pub drift : bitOf 0 messages ≡ stm .brakes .drift
   pub failed : bitOf 1 messages ≡ stm .brakes .failed
   pub fault : bitOf 2 messages ≡ stm .feedback .fault
-  pub most : messages < 8
+  pub running : bitOf 3 messages ≡ runsIn (stm .test .stage)
+  pub passed : Tells (bitOf 4 messages) (stm .test .result ≡ Verdict.Passed)
+  pub failedTest : Tells (bitOf 5 messages) (stm .test .result ≡ Verdict.Failed)
+  pub most : messages < 64
 
 abbrev pub MessagesAreWritten : Type 0
 MessagesAreWritten =

@@ -6,7 +6,7 @@
 
 // ---- answers and codes
 
-// The answers (01, "Answers"): accepted, again, and the refusals 1 to 13 in their order.
+// The answers (01, "Answers"; 02, F-3): accepted, again, and the refusals 1 to 15 in their order.
 pub enum Answer {
     Accepted,
     Again,
@@ -23,9 +23,11 @@ pub enum Answer {
     NoReference,
     NotHeld,
     AllHeld,
+    OutsideDE,
+    TestRunning,
 }
 
-// The commands (01, "Commands"), in the order of their codes.
+// The commands (01, "Commands"; 02, F-3), in the order of their codes.
 pub enum Code {
     Start,
     ChangeState,
@@ -37,6 +39,7 @@ pub enum Code {
     StopPassed,
     Proceed,
     BaliseError,
+    TestBrakes,
 }
 
 // ---- the state
@@ -163,6 +166,27 @@ pub struct Brakes {
     pub failed: bool,
 }
 
+// The stage of brake test A (02, F-3): none runs; P_INT settles, by a phase of the feedback's rule that
+// is the test's own; or it brakes, with the steady pressure and the number of reports since it settled.
+pub enum Stage {
+    Idle,
+    Settling(pressure::Phase),
+    Braking { steady: f32, reports: u8 },
+}
+
+// How the last test since the start has ended: none has, it passed, it failed.
+pub enum Verdict {
+    Pending,
+    Passed,
+    Failed,
+}
+
+// Brake test A: its stage, and beside it the result of the last one that has ended.
+pub struct BrakeTest {
+    pub stage: Stage,
+    pub result: Verdict,
+}
+
 // What the last odometer report leaves: its speed and buttons.
 pub struct Kept {
     pub speed: u16,
@@ -184,6 +208,7 @@ pub struct Stm {
     pub track: Track,
     pub brakes: Brakes,
     pub feedback: pressure::Measured,
+    pub test: BrakeTest,
     pub kept: Kept,
     pub last: Last,
 }

@@ -31,6 +31,8 @@ commands =
     row 0x30 6 ∷
     row 0x31 5 ∷
     row 0x32 5 ∷
+    -- 02, F-3: "New command 40 (5 bytes)"
+    row 0x40 5 ∷
     []
 
 -- the length in the first of the rows that has the code

@@ -9,7 +9,7 @@ pub struct Row {
 }
 
 // How many codes there are.
-pub const CODES: usize = 10;
+pub const CODES: usize = 11;
 
 // The bytes of the shortest command, a code and a number.
 pub const SHORTEST: usize = 5;
@@ -56,6 +56,10 @@ pub const COMMANDS: [Row; CODES] = [
     },
     Row {
         code: 0x32,
+        length: 5,
+    },
+    Row {
+        code: 0x40,
         length: 5,
     },
 ];

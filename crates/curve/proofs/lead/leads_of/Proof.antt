@@ -8,6 +8,12 @@ use Rattle.curve.proofs.lead.leads_of.Tie as tie
 cast-d : tie.Need-cast-d
 cast-d c = search needs
 
+cast-d-2 : tie.Need-cast-d-2
+cast-d-2 c = search needs
+
+add-d : tie.Need-add-d
+add-d c = search needs
+
 cast-c : tie.Need-cast-c
 cast-c c = search needs
 
@@ -36,4 +42,4 @@ returns c = refl
 pub leads-of-spec : {M : Type 1} → statement M
 leads-of-spec =
     tie.close
-    (tie.spec cast-d cast-c add-c cast-permitted add-permitted add-b cast-bf add-bf returns)
+    (tie.spec cast-d cast-d-2 add-d cast-c add-c cast-permitted add-permitted add-b cast-bf add-bf returns)
