@@ -164,18 +164,24 @@ pub six-bits : (a b c d e f : Bool)
 six-bits a b c d e f =
     let bits = a ∷ b ∷ c ∷ d ∷ e ∷ f ∷ [] in
     let n = six bits in
-    let t =
-    joined-each (same (bitOf 0 n) a)
-    (same (bitOf 1 n) b ∷ same (bitOf 2 n) c ∷ same (bitOf 3 n) d ∷ same (bitOf 4 n) e ∷ same (bitOf 5 n) f ∷ ltb n 64
-    ∷ eqb (n % 8) (bitValue a 0 + bitValue b 1 + bitValue c 2) ∷ [])
-    (passes 6 isSix all-six bits refl) in
+    let rest : List Bool =
+    same (bitOf 1 n) b
+    ∷ same (bitOf 2 n) c
+    ∷ same (bitOf 3 n) d
+    ∷ same (bitOf 4 n) e
+    ∷ same (bitOf 5 n) f
+    ∷ ltb n 64
+    ∷ eqb (n % 8) (bitValue a 0 + bitValue b 1 + bitValue c 2)
+    ∷ [] in
+    let holds = passes 6 isSix all-six bits refl in
+    let t = joined-each (same (bitOf 0 n) a) rest holds in
     record {
-      first = same-is _ _ (joined-first _ _ (passes 6 isSix all-six bits refl));
-      second = same-is _ _ (t 0);
-      third = same-is _ _ (t 1);
-      fourth = same-is _ _ (t 2);
-      fifth = same-is _ _ (t 3);
-      sixth = same-is _ _ (t 4);
+      first = same-is (bitOf 0 n) a (joined-first (same (bitOf 0 n) a) rest holds);
+      second = same-is (bitOf 1 n) b (t 0);
+      third = same-is (bitOf 2 n) c (t 1);
+      fourth = same-is (bitOf 3 n) d (t 2);
+      fifth = same-is (bitOf 4 n) e (t 3);
+      sixth = same-is (bitOf 5 n) f (t 4);
       most = ltb-true n 64 (t 5);
       low = eqb-true (n % 8) (bitValue a 0 + bitValue b 1 + bitValue c 2) (t 6);
     }

@@ -166,6 +166,7 @@ tests-parts r stm sound limits p =
 
 pub reported-parts : (state : State) (r : Reading) (stm : Stm) → stm .control .state ≡ state → ReadingSound r
     → LimitsSound (stm .train) → Parts stm → Parts (reportedIn state r stm)
+unfolding measures
 reported-parts State.DE r stm is sound limits p = tests-parts r (measures r stm) sound limits (measures-parts r stm sound p)
 reported-parts State.CS r stm is sound limits p = measures-parts r stm sound p
 reported-parts State.HS r stm is sound limits p = measures-parts r (moves r stm) sound (moves-parts r stm p)

@@ -1,7 +1,7 @@
 -- What a report, command 40 and leaving DE keep of brake test A and of the extra.
 use mathlib.Core.Path.{_≡_, refl, sym, ap, _∙_, subst}
 use Prim.Native.Nat.{ℕ, _+_, _≤_}
-use mathlib.Core.Bool.{Bool, true, false, cond, _||_}
+use mathlib.Core.Bool.{Bool, true, false, cond, _&&_, _||_}
 use mathlib.Core.List.{[], _∷_, _++_}
 use lib.Dec.{eqb, leb, ltb}
 use lib.IntN.{ℤ}
@@ -12,7 +12,7 @@ use Rattle.pressure.specs.declared.Pressures.{Pressures}
 use Rattle.pressure.specs.declared.Measured.{Measured}
 use Rattle.pressure.specs.Phases.{isSet, isNormal, waitedOf, isFar, settledOf, nextOf}
 use Rattle.pressure.specs.Report.{freshFeedback, pressureAt, phaseAfter, reported}
-use Rattle.pressure.specs.Claims.{Agrees}
+use Rattle.pressure.specs.Claims.{afterAll, Agrees}
 use Rattle.pressure.proofs.Agreeing.{record-agrees, phase-decides}
 use Rattle.rules.specs.Numbers.{isState}
 use Rattle.rules.specs.BrakeTest.{endedTest, leftTest, begunTest, isUnfit, phaseOn, stageOf, hasDropped, brakedOn, goneOn, testedAt, isRunning, extraLeft}
@@ -27,6 +27,18 @@ use Rattle.rules.specs.declared.Reading.{Reading}
 use Rattle.rules.proofs.Tests.{impossible, or-left, cond-by}
 use Rattle.rules.proofs.HighReadings.{Alike}
 use Rattle.rules.proofs.Feedback.{moreOf, after-more, each-more}
+
+-- where none runs, a report leaves it as it is
+pub none-tested : (train : Train) (feedback : Measured) (r : Reading) (test : BrakeTest) → test .stage ≡ Stage.Idle
+    → testedAt train feedback r test ≡ test
+unfolding testedAt
+none-tested train feedback r test e = go (test .stage) (test .result) e
+  where
+    go : (stage : Stage) (result : Verdict) → stage ≡ Stage.Idle
+        → testedAt train feedback r (record { stage = stage; result = result }) ≡ record { stage = stage; result = result }
+    go Stage.Idle result e = refl
+    go (Stage.Settling phase) result e = impossible (sym (ap isRunning e))
+    go (Stage.Braking steady reports) result e = impossible (sym (ap isRunning e))
 
 pub record TestSound (train : Train) (state : State) (test : BrakeTest) : Type 0 where
   pub stage : StageSound train state (test .stage)
@@ -59,7 +71,7 @@ leads-with train extra phase l = record { readings = l .readings; width = l .wid
 
 pub begun-sound : (train : Train) (state : State) (test : BrakeTest) → isState State.DE state ≡ true → TestSound train state test
     → TestSound train state (begunTest test)
-unfolding freshFeedback
+unfolding freshFeedback afterAll
 begun-sound train state test e t = record { stage = (e, refl, record { readings = []; width = tt; led = refl }); extra = t .extra }
 
 left-failed : (train : Train) (old new : State) (stage : Stage) (result : Verdict)
@@ -80,8 +92,8 @@ unfolding waitedOf
 waited-count p reference reports e = go (isNormal p) e
   where
     go : (t : Bool) → cond t (Phase.Settling p 0) Phase.Waiting ≡ Phase.Set reference reports → reports ≡ 0
-    go true e = impossible (ap isSet (sym e))
-    go false e = impossible (ap isSet (sym e))
+    go true e = impossible (ap isSet e)
+    go false e = impossible (ap isSet e)
 
 countIn : Phase → ℕ
 countIn Phase.Waiting = 0
@@ -93,7 +105,7 @@ unfolding settledOf countIn
 settled-count saved reference n reports e = go (ltb (n + 1) 30) e
   where
     go : (t : Bool) → cond t (Phase.Settling saved (n + 1)) (Phase.Set saved 0) ≡ Phase.Set reference reports → reports ≡ 0
-    go true e = impossible (ap isSet (sym e))
+    go true e = impossible (ap isSet e)
     go false e = sym (ap countIn e)
 
 next-count : (phase : Phase) (p reference : Float) (reports : ℕ) → isSet phase ≡ false → nextOf phase p ≡ Phase.Set reference reports
@@ -197,6 +209,6 @@ pub tested-sound : (train : Train) (state : State) (feedback : Measured) (r : Re
     → Alike (r .external) → 1 ≤ train .times .brake → TestSound train state test → SoundAfter train state (testedAt train feedback r test)
 unfolding testedAt
 tested-sound train state feedback r test a limit t =
-    cond-by (SoundAfter train state) _ (endedTest Verdict.Failed) (goneOn train feedback (r .external) (test .result) (test .stage))
+    cond-by (SoundAfter train state) (isRunning (test .stage) && isUnfit feedback r) (endedTest Verdict.Failed) (goneOn train feedback (r .external) (test .result) (test .stage))
     (λ _. ended-failed train state (test .result) (t .extra))
     (λ _. gone-sound train state feedback (r .external) (test .stage) (test .result) a limit t)

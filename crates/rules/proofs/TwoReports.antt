@@ -36,7 +36,7 @@ module _ {u w : Stm} (below : Below u w) where
 
   written-for : (state : State) → ReportsBelow (reportFor state u) (reportFor state w)
   unfolding reportOutside
-  written-for State.DE = written (le-refl 0) (rw (below .idle, below .idle′) (le-refl 0))
+  written-for State.DE = written (le-refl 0) (rw (below .test, below .idle) (le-refl 0))
   written-for State.CS = written-outside State.CS 0
   written-for State.HS = written-outside State.HS 0
   written-for State.DA = written-in-da

@@ -71,7 +71,7 @@ at-first {u} compared alike idle = record {
     brakes = brakes-at-first (compared .brakes) (λ stood. alike (ap (_|| u .brakes .causes .speed) stood) .0);
     feedback = compared .feedback;
     idle = none-runs (u .test .stage) idle;
-    idle′ = ap (λ test. test .stage) (compared .test) ∙ none-runs (u .test .stage) idle;
+    test = compared .test;
     kept = kept-at-first (compared .kept);
   };
   number = compared .last .number;
@@ -119,7 +119,7 @@ last-aside last last′ below = record {
   brakes = below .brakes;
   feedback = below .feedback;
   idle = below .idle;
-  idle′ = below .idle′;
+  test = below .test;
   kept = below .kept;
 }
 

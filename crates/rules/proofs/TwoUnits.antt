@@ -12,7 +12,8 @@ use Rattle.rules.specs.Hold.{heldOn}
 use Rattle.rules.specs.Checks.{isDrop}
 use Rattle.rules.specs.Releases.{isHalt, isBraked, sinceAt, rolledOn, rollAt, isRolled, notedBrakes}
 use Rattle.rules.specs.Releases.{serviceFails, causesAt, addedBrakes, leftBrakes, releasedBrakes}
-use Rattle.rules.specs.Odometer.{withState, withBrakes, isInsufficient, seenWith, seenOf, seenIn}
+use Rattle.rules.specs.BrakeTest.{extraLeft}
+use Rattle.rules.specs.Odometer.{withExtra, tests, withState, withBrakes, isInsufficient, seenWith, seenOf, seenIn}
 use Rattle.rules.specs.Odometer.{moves, measures, notes, adds, releases, isFresh, supervised, reportedIn}
 use Rattle.rules.specs.TwoRuns.{TrainsCompared}
 use Rattle.rules.specs.declared.State.{State}
@@ -23,11 +24,13 @@ use Rattle.rules.specs.declared.Train.{Train}
 use Rattle.rules.specs.declared.Reading.{Reading}
 use Rattle.rules.specs.declared.Seen.{Seen}
 use Rattle.rules.specs.declared.Stage.{Stage}
+use Rattle.rules.specs.declared.Verdict.{Verdict}
 use Rattle.rules.specs.declared.Stm.{Stm}
 use Rattle.rules.proofs.Monotone.{_⇒_, equal-implies, and-implies, or-implies}
 use Rattle.rules.proofs.TwoTracks.{TracksBelow, tracks-moved, tracks-noted}
 use Rattle.rules.proofs.TwoSpeeds.{KeptBelow, vmax-no-higher, curves-still-brake}
 use Rattle.rules.proofs.TwoCauses.{SeenBelow, CausesBelow, causes-after, stop-stood}
+use Rattle.rules.proofs.TestParts.{none-tested}
 
 -- ---- the two units
 
@@ -49,7 +52,7 @@ pub record Below (u w : Stm) : Type 0 where
   pub feedback : w .feedback ≡ u .feedback
   -- no test runs in either
   pub idle : u .test .stage ≡ Stage.Idle
-  pub idle′ : w .test .stage ≡ Stage.Idle
+  pub test : w .test ≡ u .test
   pub kept : KeptBelow (u .kept) (w .kept)
 
 -- two readings: the second's speed may be higher, and the controller is not in neutral
@@ -75,7 +78,7 @@ module _ {r r′ : Reading} (readings : ReadingsBelow r r′) {u w : Stm} (below
     brakes = below .brakes;
     feedback = below .feedback;
     idle = below .idle;
-    idle′ = below .idle′;
+    test = below .test;
     kept = below .kept;
   }
 
@@ -88,9 +91,52 @@ module _ {r r′ : Reading} (readings : ReadingsBelow r r′) {u w : Stm} (below
     brakes = below .brakes;
     feedback = rw (below .feedback, below .train .feed, below .train .pressure, readings .external);
     idle = below .idle;
-    idle′ = below .idle′;
+    test = below .test;
     kept = record { speed = readings .speed; loss = readings .loss; text = readings .text; halka = readings .halka };
   }
+
+-- ---- no test
+
+-- the extra goes or stays in both
+extra-below : {train train′ : Train} (result : Verdict) → TrainsCompared train train′
+    → TrainsCompared (withExtra train (extraLeft result (train .times .extra))) (withExtra train′ (extraLeft result (train′ .times .extra)))
+extra-below result trains = record {
+  softly = trains .softly;
+  feed = trains .feed;
+  speed = trains .speed;
+  length = trains .length;
+  full = trains .full;
+  soft = trains .soft;
+  times = ap (λ times. record {
+    brake = times .brake;
+    c = times .c;
+    permitted = times .permitted;
+    bf = times .bf;
+    extra = extraLeft result (times .extra);
+  }) (trains .times);
+  margin = trains .margin;
+  emergency = trains .emergency;
+  sufficient = trains .sufficient;
+  pressure = trains .pressure;
+  check = trains .check;
+}
+
+module _ {r r′ : Reading} (readings : ReadingsBelow r r′) {u w : Stm} (below : Below u w) where
+  tests-below : Below (tests r u) (tests r′ w)
+  tests-below =
+      let same = none-tested (u .train) (u .feedback) r (u .test) (below .idle) in
+      let same′ = none-tested (w .train) (w .feedback) r′ (w .test) (ap (λ test. test .stage) (below .test) ∙ below .idle) ∙ below .test in
+      rw (same, same′)
+      (record {
+        state = below .state;
+        train = extra-below (u .test .result) (below .train);
+        track = below .track;
+        brakes = below .brakes;
+        feedback = below .feedback;
+        idle = below .idle;
+        test = refl;
+        kept = below .kept;
+      })
 
 -- ---- the notes
 
@@ -128,7 +174,7 @@ module _ {r r′ : Reading} (readings : ReadingsBelow r r′) where
     brakes = brakes-noted (u .train) (w .train) (below .brakes);
     feedback = below .feedback;
     idle = below .idle;
-    idle′ = below .idle′;
+    test = below .test;
     kept = below .kept;
   }
 
@@ -228,8 +274,8 @@ module _ (loss text : Bool) {u w : Stm} (below : Below u w) (still : isRolled (u
             (below .brakes) (stop-noted below) (rw e at sound);
         feedback = below .feedback;
         idle = below .idle;
-    idle′ = below .idle′;
-    kept = below .kept;
+        test = below .test;
+        kept = below .kept;
       })
 
 -- ---- a report, by the state
@@ -255,7 +301,7 @@ module _ {r r′ : Reading} (readings : ReadingsBelow r r′) {u w : Stm} (below
   pub reported-below : (state : State) → stands (reportedIn state r u .brakes .causes) Cause.ServiceFault ≡ false
       → reportedIn state r u .brakes .failed ≡ false → reportedIn state r′ w .brakes .failed ≡ false
       → Below (reportedIn state r u) (reportedIn state r′ w)
-  reported-below State.DE sound h h′ = measures-below readings below
+  reported-below State.DE sound h h′ = tests-below readings (measures-below readings below)
   reported-below State.CS sound h h′ = measures-below readings below
   reported-below State.HS sound h h′ = measures-below readings (moves-below readings below)
   reported-below State.DA sound h h′ = supervised-below sound h h′

@@ -90,6 +90,10 @@ proceed = command 0x31 []
 abbrev pub baliseError : Command
 baliseError = command 0x32 []
 
+-- 02, F-3
+abbrev pub testBrakes : Command
+testBrakes = command 0x40 []
+
 -- ---- units that commands lead to
 
 -- "numbered one more than the last accepted"
@@ -135,7 +139,7 @@ answerIn stm x = answerNumber (answerTo stm (sent stm x))
 -- ---- codes and lengths
 
 -- "Codes and whole lengths", the columns Code and Bytes: start, state, odometer, curve, curve end, section, section end, stop
--- passed, proceed signal, balise error
+-- passed, proceed signal, balise error; 02, F-3: "New command 40 (5 bytes)"
 abbrev pub lengths : List (ℕ × ℕ)
 lengths =
     (0x01, 24)
@@ -148,6 +152,7 @@ lengths =
     ∷ (0x30, 6)
     ∷ (0x31, 5)
     ∷ (0x32, 5)
+    ∷ (0x40, 5)
     ∷ []
 
 -- the answer before any start to so many bytes, the first with this value and the others 0
@@ -178,7 +183,7 @@ areNumbered numbered things numbers = sameBytes (map numbered things) numbers
 
 unfoldable pub numbersTold : List Bool
 numbersTold =
-    -- "0 accepted. 100 again", and the refusals 1 to 13 in their order
+    -- "0 accepted. 100 again", and the refusals 1 to 13 in their order; 02, F-3: 14 and 15
     areNumbered answerNumber
     (Answer.Accepted
     ∷ Answer.Again
@@ -195,8 +200,10 @@ numbersTold =
     ∷ Answer.NoReference
     ∷ Answer.NotHeld
     ∷ Answer.AllHeld
+    ∷ Answer.OutsideDE
+    ∷ Answer.TestRunning
     ∷ [])
-    (0 ∷ 100 ∷ 1 ∷ 2 ∷ 3 ∷ 4 ∷ 5 ∷ 6 ∷ 7 ∷ 8 ∷ 9 ∷ 10 ∷ 11 ∷ 12 ∷ 13 ∷ [])
+    (0 ∷ 100 ∷ 1 ∷ 2 ∷ 3 ∷ 4 ∷ 5 ∷ 6 ∷ 7 ∷ 8 ∷ 9 ∷ 10 ∷ 11 ∷ 12 ∷ 13 ∷ 14 ∷ 15 ∷ [])
     -- the codes, in the table's order
     ∷ areNumbered codeNumber
     (Code.Start
@@ -209,6 +216,7 @@ numbersTold =
     ∷ Code.StopPassed
     ∷ Code.Proceed
     ∷ Code.BaliseError
+    ∷ Code.TestBrakes
     ∷ [])
     (map (λ row. row .0) lengths)
     ∷ areNumbered (λ row. codeNumber (codeOf (row .0))) lengths (map (λ row. row .0) lengths)
@@ -315,18 +323,19 @@ statesWritten =
 abbrev pub stateWritten : Stm → Command → ℕ
 stateWritten stm x = stateIn (momentOf stm (sent stm x) .area)
 
--- the ten codes in each state: "20–23 and 31 want HS or DA, 30 and 32 want DA"; 02 goes to FA here
+-- the eleven codes in each state: "20–23 and 31 want HS or DA, 30 and 32 want DA"; 02, F-3: "14, test asked outside DE"; 02 goes to
+-- FA here
 abbrev pub taken : List (List ℕ)
 taken =
-    (0 ∷ 0 ∷ 0 ∷ 10 ∷ 10 ∷ 10 ∷ 10 ∷ 10 ∷ 10 ∷ 10 ∷ [])
-    ∷ (0 ∷ 0 ∷ 0 ∷ 10 ∷ 10 ∷ 10 ∷ 10 ∷ 10 ∷ 10 ∷ 10 ∷ [])
-    ∷ (0 ∷ 0 ∷ 0 ∷ 0 ∷ 0 ∷ 0 ∷ 0 ∷ 10 ∷ 0 ∷ 10 ∷ [])
-    ∷ (0 ∷ 0 ∷ 0 ∷ 0 ∷ 0 ∷ 0 ∷ 0 ∷ 0 ∷ 0 ∷ 0 ∷ [])
-    ∷ (0 ∷ 8 ∷ 8 ∷ 8 ∷ 8 ∷ 8 ∷ 8 ∷ 8 ∷ 8 ∷ 8 ∷ [])
+    (0 ∷ 0 ∷ 0 ∷ 10 ∷ 10 ∷ 10 ∷ 10 ∷ 10 ∷ 10 ∷ 10 ∷ 0 ∷ [])
+    ∷ (0 ∷ 0 ∷ 0 ∷ 10 ∷ 10 ∷ 10 ∷ 10 ∷ 10 ∷ 10 ∷ 10 ∷ 14 ∷ [])
+    ∷ (0 ∷ 0 ∷ 0 ∷ 0 ∷ 0 ∷ 0 ∷ 0 ∷ 10 ∷ 0 ∷ 10 ∷ 14 ∷ [])
+    ∷ (0 ∷ 0 ∷ 0 ∷ 0 ∷ 0 ∷ 0 ∷ 0 ∷ 0 ∷ 0 ∷ 0 ∷ 14 ∷ [])
+    ∷ (0 ∷ 8 ∷ 8 ∷ 8 ∷ 8 ∷ 8 ∷ 8 ∷ 8 ∷ 8 ∷ 8 ∷ 8 ∷ [])
     ∷ []
 
-abbrev pub tenCodes : List Command
-tenCodes =
+abbrev pub eachCode : List Command
+eachCode =
     started
     ∷ state 4
     ∷ halts
@@ -337,6 +346,7 @@ tenCodes =
     ∷ stop 0
     ∷ proceed
     ∷ baliseError
+    ∷ testBrakes
     ∷ []
 
 abbrev pub toStates : List Command
@@ -346,7 +356,7 @@ abbrev pub statesIn : List Stm → List Bool
 statesIn units =
     answersAre toStates paths units
     ++ zipWith (λ stm row. sameBytes (map (stateWritten stm) toStates) row) units statesWritten
-    ++ answersAre tenCodes taken units
+    ++ answersAre eachCode taken units
 
 -- ---- where each operand lies
 
@@ -370,7 +380,7 @@ directionNumber Direction.Down = 1
 abbrev pub trainAfter : Command → Train
 trainAfter x = stateAfter freshStm (sent freshStm x) .train
 
--- the fields in 01's order, the two flags first
+-- the fields in 01's order, the two flags first; 02, F-3: the extra last
 abbrev pub trainFigures : Train → List ℕ
 trainFigures train =
     truth (train .softly)
@@ -388,6 +398,7 @@ trainFigures train =
     ∷ train .sufficient
     ∷ train .pressure
     ∷ train .check
+    ∷ train .times .extra
     ∷ []
 
 abbrev pub buttons : Reading → List ℕ
@@ -426,9 +437,11 @@ sectionGiven stm x = sectionAt 0 (stateAfter stm (sent stm x))
 abbrev pub operandsIn : Stm → List Bool
 operandsIn stm =
     sameBytes (trainFigures (trainAfter (start 2 260 515 1541 1287 8 9 10 11 12 13 46 277 14)))
-    (0 ∷ 1 ∷ 260 ∷ 515 ∷ 1541 ∷ 1287 ∷ 8 ∷ 9 ∷ 10 ∷ 11 ∷ 12 ∷ 13 ∷ 46 ∷ 277 ∷ 14 ∷ [])
-    -- "flags 1 (bit 0 soft braking, bit 1 cylinder feedback ..)"
+    (0 ∷ 1 ∷ 260 ∷ 515 ∷ 1541 ∷ 1287 ∷ 8 ∷ 9 ∷ 10 ∷ 11 ∷ 12 ∷ 13 ∷ 46 ∷ 277 ∷ 14 ∷ 0 ∷ [])
+    -- "flags 1 (bit 0 soft braking, bit 1 cylinder feedback ..)"; 02, F-3: "A new start flag, bit 2", "an extra 50 tenths"
     ∷ sameBytes (take 2 (trainFigures (trainAfter (start 1 260 515 1541 1287 8 9 10 11 12 13 46 277 14)))) (1 ∷ 0 ∷ [])
+    ∷ sameBytes (trainFigures (trainAfter (start 4 260 515 1541 1287 8 9 10 11 12 13 46 277 14)))
+    (0 ∷ 0 ∷ 260 ∷ 515 ∷ 1541 ∷ 1287 ∷ 8 ∷ 9 ∷ 10 ∷ 11 ∷ 12 ∷ 13 ∷ 46 ∷ 277 ∷ 14 ∷ 50 ∷ [])
     -- "measured deceleration 2, signed; P_EXT 2, signed half kPa", "in two's complement": FFF9 is −7, FE0C is −500
     ∷ eqb (readingSent (report 4611 1110 0xFFF9 0xFE0C 0) .speed) 4611
     ∷ eqb (readingSent (report 4611 1110 0xFFF9 0xFE0C 0) .moved) 1110
@@ -478,8 +491,8 @@ rangeHolds stm x r =
 abbrev pub rangesIn : Stm → List Bool
 rangesIn stm =
     map (rangeHolds stm started)
-    -- "flags 1 (bit 0 .., bit 1 ..; others 0)"
-    (range 0 1 (0 ∷ 1 ∷ 2 ∷ 3 ∷ []) (4 ∷ 8 ∷ 16 ∷ 32 ∷ 64 ∷ 128 ∷ [])
+    -- "flags 1 (bit 0 .., bit 1 ..; others 0)"; 02, F-3: "bit 2"
+    (range 0 1 (0 ∷ 1 ∷ 2 ∷ 3 ∷ 4 ∷ 5 ∷ 6 ∷ 7 ∷ []) (8 ∷ 16 ∷ 32 ∷ 64 ∷ 128 ∷ [])
     -- "train speed 2, 10–300; length 2, 10–1,000 m"
     ∷ range 1 2 (10 ∷ 300 ∷ []) (9 ∷ 301 ∷ [])
     ∷ range 3 2 (10 ∷ 1000 ∷ []) (9 ∷ 1001 ∷ [])
