@@ -31,6 +31,7 @@ pub mod Counts
 pub mod HighReadings
 pub mod Feedback
 pub mod TestParts
+pub mod TestCourse
 pub mod UnitParts
 pub mod Reporting
 pub mod Keeps

@@ -1,6 +1,6 @@
 -- Brake test A over runs (02, F-3). Proved in proofs/.
 use mathlib.Core.Path.{_≡_}
-use Prim.Native.Nat.{ℕ, _+_, _%_, _<_}
+use Prim.Native.Nat.{ℕ, _+_, _%_, _≤_, _<_}
 use mathlib.Core.Bool.{Bool, true, false, cond, not, _&&_, _||_}
 use mathlib.Core.Logic.{_⊎_}
 use mathlib.Core.List.{List, [], _∷_, _++_, map}
@@ -38,6 +38,8 @@ endsTest command = isOf Code.TestBrakes command || isOf Code.ChangeState command
 pub record Asked (stm : Stm) (x : Sent) (ys : List Sent) : Type 0 where
   pub accepted : isAccepted (answerTo stm x) ≡ true
   pub asks : isOf Code.TestBrakes (x .command) ≡ true
+  -- "T_B 1, 1–100"
+  pub limit : 1 ≤ stm .train .times .brake
   pub alone : noneAccepted (λ before command. endsTest command) (stateAfter stm x) ys ≡ true
 
 -- the bytes of the accepted reports
