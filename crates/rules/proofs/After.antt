@@ -1,4 +1,4 @@
--- The parts of the unit after one accepted command: train, track, feedback, kept figures and control. Assumes nothing.
+-- The parts of the unit after one accepted command: train, track, feedback, brake test, kept figures and control. Assumes nothing.
 use mathlib.Core.Path.{_≡_, refl, sym, _∙_, ap}
 use Prim.Native.Nat.{ℕ}
 use mathlib.Core.Bool.{Bool, true, false, cond}
@@ -7,11 +7,12 @@ use Rattle.pressure.specs.Report.{reportedTo}
 use Rattle.wire.specs.Numbers.{byteAt}
 use Rattle.wire.specs.Form.{operandsOf}
 use Rattle.rules.specs.Numbers.{codeOf, stateOf, isAccepted, isCode, isState}
-use Rattle.rules.specs.Operands.{codeByte, readingOf}
+use Rattle.rules.specs.Operands.{codeByte, trainOf, readingOf}
 use Rattle.rules.specs.Places.{movedTrack}
 use Rattle.rules.specs.Releases.{releasedBrakes}
+use Rattle.rules.specs.BrakeTest.{freshTest, begunTest, leftTest, testedAt, extraLeft}
 use Rattle.rules.specs.Odometer.{withState, withBrakes, withExtra, seenIn, keptOf, moves, measures, notedTrack, notes, adds, releases, isFresh, supervised, reportedIn}
-use Rattle.rules.specs.Commands.{entered, stopped, carriedOut, remembered, acceptedOf}
+use Rattle.rules.specs.Commands.{freshWith, entered, stopped, carriedOut, remembered, acceptedOf}
 use Rattle.rules.specs.Runs.{Sent, answerTo, stateAfter}
 use Rattle.rules.specs.History.{isIn, isReport, isSupervised}
 use Rattle.rules.specs.Braking.{readingIn, measuredAt}
@@ -19,6 +20,7 @@ use Rattle.rules.specs.declared.Code.{Code}
 use Rattle.rules.specs.declared.State.{State}
 use Rattle.rules.specs.declared.Track.{Track}
 use Rattle.rules.specs.declared.Brakes.{Brakes}
+use Rattle.rules.specs.declared.BrakeTest.{BrakeTest}
 use Rattle.rules.specs.declared.Reading.{Reading}
 use Rattle.rules.specs.declared.Stm.{Stm}
 use Rattle.rules.proofs.Answers.{after-accepted}
@@ -97,6 +99,10 @@ module _ (r : Reading) (stm : Stm) where
   unfolding adds notes measures moves
   supervised-feedback = supervised-part (λ s. s .feedback) (λ _. refl) (λ _. refl)
 
+  supervised-test : supervised r stm .test ≡ stm .test
+  unfolding adds notes measures moves
+  supervised-test = supervised-part (λ s. s .test) (λ _. refl) (λ _. refl)
+
   supervised-kept : supervised r stm .kept ≡ keptOf r
   unfolding adds notes measures moves
   supervised-kept = supervised-part (λ s. s .kept) (λ _. refl) (λ _. refl)
@@ -134,6 +140,38 @@ module _ (r : Reading) (stm : Stm) where
   reported-feedback State.DA e = supervised-feedback
   reported-feedback State.FA e = impossible (sym e)
 
+  -- in DE a test goes on, and with a pass the extra goes
+  abbrev pub testIn : State → BrakeTest
+  testIn State.DE =
+      testedAt (stm .train) (reportedTo (stm .feedback) (stm .train .feed) (stm .train .pressure) (r .external)) r (stm .test)
+  testIn State.CS = stm .test
+  testIn State.HS = stm .test
+  testIn State.DA = stm .test
+  testIn State.FA = stm .test
+
+  pub reported-test : (state : State) → reportedIn state r stm .test ≡ testIn state
+  unfolding measures moves
+  reported-test State.DE = refl
+  reported-test State.CS = refl
+  reported-test State.HS = refl
+  reported-test State.DA = supervised-test
+  reported-test State.FA = refl
+
+  abbrev pub extraIn : State → ℕ
+  extraIn State.DE = extraLeft (testIn State.DE .result) (stm .train .times .extra)
+  extraIn State.CS = stm .train .times .extra
+  extraIn State.HS = stm .train .times .extra
+  extraIn State.DA = stm .train .times .extra
+  extraIn State.FA = stm .train .times .extra
+
+  pub reported-extra : (state : State) → reportedIn state r stm .train .times .extra ≡ extraIn state
+  unfolding measures moves
+  reported-extra State.DE = refl
+  reported-extra State.CS = refl
+  reported-extra State.HS = refl
+  reported-extra State.DA = ap (λ train. train .times .extra) supervised-train
+  reported-extra State.FA = refl
+
   pub reported-kept : (state : State) → isState State.FA state ≡ false → reportedIn state r stm .kept ≡ keptOf r
   unfolding measures moves
   reported-kept State.DE e = refl
@@ -166,6 +204,68 @@ train-kept Code.StopPassed s stm e = refl
 train-kept Code.Proceed s stm e = refl
 train-kept Code.BaliseError s stm e = refl
 train-kept Code.TestBrakes s stm e = refl
+
+-- the test and the extra after a command
+abbrev pub testBy : Code → List ℕ → Stm → BrakeTest
+testBy Code.Start s stm = freshTest
+testBy Code.ChangeState s stm = leftTest (stm .test)
+testBy Code.Odometer s stm = testIn (readingOf s) stm (stm .control .state)
+testBy Code.NewCurve s stm = stm .test
+testBy Code.EndCurve s stm = stm .test
+testBy Code.NewSection s stm = stm .test
+testBy Code.EndSection s stm = stm .test
+testBy Code.StopPassed s stm = stm .test
+testBy Code.Proceed s stm = stm .test
+testBy Code.BaliseError s stm = stm .test
+testBy Code.TestBrakes s stm = begunTest (stm .test)
+
+pub test-by : (code : Code) (s : List ℕ) (stm : Stm) → carriedOut code s stm .test ≡ testBy code s stm
+unfolding freshWith stopped
+test-by Code.Start s stm = refl
+test-by Code.ChangeState s stm = refl
+test-by Code.Odometer s stm = reported-test (readingOf s) stm (stm .control .state)
+test-by Code.NewCurve s stm = refl
+test-by Code.EndCurve s stm = refl
+test-by Code.NewSection s stm = refl
+test-by Code.EndSection s stm = refl
+test-by Code.StopPassed s stm = refl
+test-by Code.Proceed s stm = refl
+test-by Code.BaliseError s stm = refl
+test-by Code.TestBrakes s stm = refl
+
+abbrev pub extraBy : Code → List ℕ → Stm → ℕ
+extraBy Code.Start s stm = trainOf s .times .extra
+extraBy Code.ChangeState s stm = stm .train .times .extra
+extraBy Code.Odometer s stm = extraIn (readingOf s) stm (stm .control .state)
+extraBy Code.NewCurve s stm = stm .train .times .extra
+extraBy Code.EndCurve s stm = stm .train .times .extra
+extraBy Code.NewSection s stm = stm .train .times .extra
+extraBy Code.EndSection s stm = stm .train .times .extra
+extraBy Code.StopPassed s stm = stm .train .times .extra
+extraBy Code.Proceed s stm = stm .train .times .extra
+extraBy Code.BaliseError s stm = stm .train .times .extra
+extraBy Code.TestBrakes s stm = stm .train .times .extra
+
+pub extra-by : (code : Code) (s : List ℕ) (stm : Stm) → carriedOut code s stm .train .times .extra ≡ extraBy code s stm
+unfolding freshWith stopped
+extra-by Code.Start s stm = refl
+extra-by Code.ChangeState s stm = entered-extra (stateOf (byteAt s 0))
+  where
+    entered-extra : (state : State) → entered state stm .train .times .extra ≡ stm .train .times .extra
+    entered-extra State.DE = refl
+    entered-extra State.CS = refl
+    entered-extra State.HS = refl
+    entered-extra State.DA = refl
+    entered-extra State.FA = refl
+extra-by Code.Odometer s stm = reported-extra (readingOf s) stm (stm .control .state)
+extra-by Code.NewCurve s stm = refl
+extra-by Code.EndCurve s stm = refl
+extra-by Code.NewSection s stm = refl
+extra-by Code.EndSection s stm = refl
+extra-by Code.StopPassed s stm = refl
+extra-by Code.Proceed s stm = refl
+extra-by Code.BaliseError s stm = refl
+extra-by Code.TestBrakes s stm = refl
 
 -- entering a state other than CS leaves the track
 pub track-entered : (state : State) (stm : Stm) → isState State.CS state ≡ false → entered state stm .track ≡ stm .track

@@ -286,7 +286,7 @@ call-keeps-unit stm x u = go (isAccepted (answerTo stm x)) refl
     go true e = subst IsUnit (sym (after-accepted stm x e)) (accepted-unit (x .command) stm (passed stm x e .1) u)
     go false e = subst IsUnit (sym (after-other stm x e)) u
 
-run-keeps-unit : (stm : Stm) (xs : List Sent) → IsUnit stm → IsUnit (stateAtEnd stm xs)
+pub run-keeps-unit : (stm : Stm) (xs : List Sent) → IsUnit stm → IsUnit (stateAtEnd stm xs)
 unfolding stateAtEnd
 run-keeps-unit stm [] u = u
 run-keeps-unit stm (x ∷ xs) u = run-keeps-unit (stateAfter stm x) xs (call-keeps-unit stm x u)

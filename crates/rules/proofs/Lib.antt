@@ -35,6 +35,7 @@ pub mod TestCourse
 pub mod UnitParts
 pub mod Reporting
 pub mod Keeps
+pub mod TestRuns
 pub mod Changes
 pub mod Monotone
 pub mod TwoTracks

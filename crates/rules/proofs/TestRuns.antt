@@ -1,0 +1,299 @@
+-- Brake test A over a list of commands: its course, its end, its extra. Assumes nothing.
+use mathlib.Core.Path.{_≡_, refl, sym, ap, ap₂, _∙_, subst}
+use Prim.Native.Nat.{ℕ, zero, suc, _≤_}
+use native.Mathlib.Nat.{suc-ne-zero}
+use native.Mathlib.Omega.{arith}
+use mathlib.Core.Bool.{Bool, true, false, cond, not, _&&_, _||_}
+use mathlib.Core.Logic.{_⊎_, inl, inr}
+use mathlib.Core.List.{List, [], _∷_}
+use lib.Dec.{eqb, ltb}
+use lib.IntN.{ℤ}
+use lib.Ieee.{Float}
+use lib.ListN.{length}
+use borrow.Author.Tests.{lt-ltb, ne-eqb, not-false, not-true, eqb-true}
+use Rattle.wire.specs.Form.{operandsOf}
+use Rattle.pressure.specs.declared.Phase.{Phase}
+use Rattle.pressure.specs.declared.Measured.{Measured}
+use Rattle.pressure.specs.Convert.{halvedOf, isLow, isHigh, sensorFault, pressureOf}
+use Rattle.pressure.specs.Reference.{dropOf}
+use Rattle.pressure.specs.Report.{pressureAt, reported, reportedTo}
+use Rattle.rules.specs.Numbers.{isAccepted, isCode, isState, codeOf, stateOf}
+use Rattle.rules.specs.Operands.{codeByte, bitOf, trainOf, readingOf}
+use Rattle.rules.specs.BrakeTest.{isRunning, hasPassed, begunTest, endedTest, leftTest, isUnfit, phaseOn, hasDropped, goneOn, testedAt, extraLeft}
+use Rattle.rules.specs.Odometer.{withExtra}
+use Rattle.rules.specs.Reports.{reportOutside, reportFor, reportOf}
+use Rattle.rules.specs.Commands.{carriedOut}
+use Rattle.rules.specs.Refusals.{testsOutside}
+use Rattle.rules.specs.Runs.{Sent, answerTo, stateAfter, momentOf, stateAtEnd, noneAccepted, isOf}
+use Rattle.rules.specs.History.{Tells, firstOperand, speedOf, externalOf, orderIn, messagesIn, isIn, isReport, isSupervised, collected, standsThrough}
+use Rattle.rules.specs.Braking.{readingIn}
+use Rattle.rules.specs.Written.{orderInTest, runsIn, MessagesTell}
+use Rattle.rules.specs.Units.{IsUnit, isExtraSound, StageSound}
+use Rattle.rules.specs.TestRuns.{endsTest, Asked, reportsOf, isFit, dropsFrom, Brakes, TestOrders, TestRuns, TestEnds, ResultStands}
+use Rattle.rules.specs.TestRuns.{NoTestUnasked, LeavingFailsTest, NoTestOutsideDE, ExtraByFlag, ExtraUntilPassed, PassedHasNoExtra, NoExtraStays}
+use Rattle.rules.specs.declared.Code.{Code}
+use Rattle.rules.specs.declared.State.{State}
+use Rattle.rules.specs.declared.Train.{Train}
+use Rattle.rules.specs.declared.Stage.{Stage}
+use Rattle.rules.specs.declared.Verdict.{Verdict}
+use Rattle.rules.specs.declared.BrakeTest.{BrakeTest}
+use Rattle.rules.specs.declared.Stm.{Stm}
+use Rattle.rules.proofs.Answers.{after-other, passed}
+use Rattle.rules.proofs.Tests.{impossible, and-left, neither}
+use Rattle.rules.proofs.Told.{code-is, state-is}
+use Rattle.rules.proofs.Ordering.{doneBy}
+use Rattle.rules.proofs.Standing.{kept-to-end}
+use Rattle.rules.proofs.After.{train-after, test-after, testIn, testBy, test-by, extraBy, extra-by}
+use Rattle.rules.proofs.Ground.{spared-first}
+use Rattle.rules.proofs.Readings.{train-once}
+use Rattle.rules.proofs.Fresh.{state-stays}
+use Rattle.rules.proofs.Written.{written-is, report-kept, report-at-end, messages-tell}
+use Rattle.rules.proofs.Keeps.{call-keeps-unit, run-keeps-unit}
+use Rattle.rules.proofs.TestParts.{none-tested}
+use Rattle.rules.proofs.TestCourse.{goneBy, byReport, byReports, settles-is, brakes-is, passed-is, failed-is, Course, settles, brakes, failed, course}
+
+-- ---- a report, by its bytes
+
+not-zero : (v : ℕ) → ltb 0 v ≡ not (eqb v 0)
+not-zero zero = refl
+not-zero (suc n) = rw (lt-ltb 0 (suc n) (omega arith), ne-eqb (suc n) 0 (suc-ne-zero n))
+
+unfit-told : (fault : Bool) (v : ℕ) → (fault || ltb 0 v) ≡ not (not fault && eqb v 0)
+unfit-told true v = refl
+unfit-told false v = not-zero v
+
+-- P_INT of a report that shows no TRYCKGIVARFEL is that of its P_EXT alone
+low-false : (h : Float) → sensorFault h ≡ false → isLow h ≡ false
+unfolding sensorFault
+low-false h e = neither (isLow h) (isHigh h) e .0
+
+module _ (train : Train) (before : Measured) (command : List ℕ) where
+  abbrev after : Measured
+  after = reportedTo before (train .feed) (train .pressure) (externalOf command)
+
+  unfit-same : isUnfit after (readingIn command) ≡ not (isFit command)
+  unfolding reported readingOf
+  unfit-same = unfit-told (sensorFault (halvedOf (externalOf command))) (speedOf command)
+
+  drop-same : (steady : Float) → isFit command ≡ true → hasDropped steady (after .pressures .pressure) ≡ dropsFrom train steady command
+  unfolding reported pressureAt pressureOf hasDropped dropOf
+  drop-same steady fit =
+      let fault = not-true (sensorFault (halvedOf (externalOf command))) (and-left _ (eqb (speedOf command) 0) fit) in
+      rw (low-false (halvedOf (externalOf command)) fault)
+
+  pub tested-by : (stage : Stage) (result : Verdict)
+      → testedAt train after (readingIn command) (record { stage = stage; result = result })
+      ≡ byReport train command (record { stage = stage; result = result })
+  unfolding testedAt readingOf
+  tested-by Stage.Idle result = refl
+  tested-by (Stage.Settling phase) result = rw unfit-same
+  tested-by (Stage.Braking steady reports) result = go (isFit command) refl
+    where
+      go : (fit : Bool) → isFit command ≡ fit
+          → testedAt train after (readingIn command) (record { stage = Stage.Braking steady reports; result = result })
+          ≡ byReport train command (record { stage = Stage.Braking steady reports; result = result })
+      go true e = rw (unfit-same, e, drop-same steady e)
+      go false e = rw (unfit-same, e)
+
+-- the extra plays no part in it
+by-extra : (train : Train) (extra : ℕ) (command : List ℕ) (stage : Stage) (result : Verdict)
+    → byReport (withExtra train extra) command (record { stage = stage; result = result })
+    ≡ byReport train command (record { stage = stage; result = result })
+unfolding phaseOn
+by-extra train extra command Stage.Idle result = refl
+by-extra train extra command (Stage.Settling phase) result = refl
+by-extra train extra command (Stage.Braking steady reports) result = refl
+
+-- ---- one command in DE
+
+module _ (stm : Stm) (x : Sent) (e : isAccepted (answerTo stm x) ≡ true) where
+  pub test-after-by : stateAfter stm x .test ≡ testBy (codeOf (codeByte (x .command))) (operandsOf (x .command)) stm
+  test-after-by = test-after stm x e ∙ test-by (codeOf (codeByte (x .command))) (operandsOf (x .command)) stm
+
+  pub extra-after-by : stateAfter stm x .train .times .extra ≡ extraBy (codeOf (codeByte (x .command))) (operandsOf (x .command)) stm
+  extra-after-by =
+      ap (λ train. train .times .extra) (train-after stm x e) ∙ extra-by (codeOf (codeByte (x .command))) (operandsOf (x .command)) stm
+
+  report-tests : isReport (x .command) ≡ true → isIn State.DE stm ≡ true
+      → stateAfter stm x .test ≡ byReport (stm .train) (x .command) (stm .test)
+  unfolding readingOf
+  report-tests c de =
+      test-after-by
+      ∙ ap (λ code. testBy code (operandsOf (x .command)) stm) (code-is Code.Odometer (codeOf (codeByte (x .command))) c)
+      ∙ ap (testIn (readingIn (x .command)) stm) (state-is State.DE (stm .control .state) de)
+      ∙ tested-by (stm .train) (stm .feedback) (x .command) (stm .test .stage) (stm .test .result)
+
+other-test : (code : Code) (s : List ℕ) (stm : Stm)
+    → (isCode Code.TestBrakes code || isCode Code.ChangeState code || isCode Code.Start code) ≡ false
+    → isCode Code.Odometer code ≡ false → testBy code s stm ≡ stm .test
+other-test Code.Start s stm n c = impossible (sym n)
+other-test Code.ChangeState s stm n c = impossible (sym n)
+other-test Code.Odometer s stm n c = impossible (sym c)
+other-test Code.NewCurve s stm n c = refl
+other-test Code.EndCurve s stm n c = refl
+other-test Code.NewSection s stm n c = refl
+other-test Code.EndSection s stm n c = refl
+other-test Code.StopPassed s stm n c = refl
+other-test Code.Proceed s stm n c = refl
+other-test Code.BaliseError s stm n c = refl
+other-test Code.TestBrakes s stm n c = impossible (sym n)
+
+no-da : (state : State) → isState State.DE state ≡ true → isState State.DA state ≡ false
+no-da State.DE e = refl
+no-da State.CS e = impossible e
+no-da State.HS e = impossible e
+no-da State.DA e = impossible e
+no-da State.FA e = impossible e
+
+-- DE stays
+de-once : (stm : Stm) (x : Sent) (accepted : Bool) → isAccepted (answerTo stm x) ≡ accepted
+    → (accepted ≡ true → endsTest (x .command) ≡ false) → isIn State.DE stm ≡ true → isIn State.DE (stateAfter stm x) ≡ true
+de-once stm x true e n de =
+    let t = neither (isOf Code.TestBrakes (x .command) || isOf Code.ChangeState (x .command)) (isOf Code.Start (x .command)) (n refl) in
+    let other = ap₂ _||_ (t .1) (neither (isOf Code.TestBrakes (x .command)) (isOf Code.ChangeState (x .command)) (t .0) .1) in
+    ap (λ control. isState State.DE (control .state))
+    (state-stays stm x e other (outside (isReport (x .command)) (isIn State.DA stm) _ (no-da (stm .control .state) de)))
+    ∙ de
+  where
+    outside : (a b c : Bool) → b ≡ false → ((a && b) && c) ≡ false
+    outside true true c h = impossible (sym h)
+    outside true false c h = refl
+    outside false b c h = refl
+de-once stm x false e n de = ap (isIn State.DE) (after-other stm x e) ∙ de
+
+-- the test moves by the reports alone; the train is one but for the extra
+test-once : (train : Train) (stm : Stm) (x : Sent) (accepted report : Bool) → isAccepted (answerTo stm x) ≡ accepted
+    → isReport (x .command) ≡ report → (accepted ≡ true → endsTest (x .command) ≡ false) → isIn State.DE stm ≡ true
+    → stm .train ≡ withExtra train (stm .train .times .extra)
+    → stateAfter stm x .test ≡ cond (accepted && report) (byReport train (x .command) (stm .test)) (stm .test)
+test-once train stm x true true e c n de same =
+    report-tests stm x e c de
+    ∙ ap (λ tr. byReport tr (x .command) (stm .test)) same
+    ∙ by-extra train (stm .train .times .extra) (x .command) (stm .test .stage) (stm .test .result)
+test-once train stm x true false e c n de same =
+    test-after-by stm x e ∙ other-test (codeOf (codeByte (x .command))) (operandsOf (x .command)) stm (n refl) c
+test-once train stm x false report e c n de same = ap (λ s. s .test) (after-other stm x e)
+
+-- one report more, or none
+test-more : (train : Train) (test : BrakeTest) (t : Bool) (report : List ℕ) (reports : List (List ℕ))
+    → byReports train reports (cond t (byReport train report test) test) ≡ byReports train (cond t (report ∷ reports) reports) test
+unfolding byReports
+test-more train test true report reports = refl
+test-more train test false report reports = refl
+
+no-start : (command : List ℕ) → endsTest command ≡ false → isOf Code.Start command ≡ false
+no-start command n = neither (isOf Code.TestBrakes command || isOf Code.ChangeState command) (isOf Code.Start command) n .1
+
+test-over : (train : Train) (stm : Stm) (xs : List Sent) → noneAccepted (λ before command. endsTest command) stm xs ≡ true
+    → isIn State.DE stm ≡ true → stm .train ≡ withExtra train (stm .train .times .extra)
+    → (stateAtEnd stm xs .test ≡ byReports train (reportsOf stm xs) (stm .test)) × (isIn State.DE (stateAtEnd stm xs) ≡ true)
+unfolding stateAtEnd collected byReports
+test-over train stm [] n de same = (refl, de)
+test-over train stm (x ∷ xs) n de same =
+    let t = spared-first (λ before command. endsTest command) stm x xs n in
+    let accepted = isAccepted (answerTo stm x) in
+    let after = stateAfter stm x in
+    let train-now = train-once stm x accepted refl (λ a. no-start (x .command) (t .0 a)) in
+    let rest =
+    test-over train after xs (t .1) (de-once stm x accepted refl (t .0) de)
+    (train-now ∙ ap (λ tr. withExtra tr (after .train .times .extra)) same) in
+    let first = test-once train stm x accepted (isReport (x .command)) refl refl (t .0) de same in (
+      rest .0
+          ∙ ap (byReports train (reportsOf after xs)) first
+          ∙ test-more train (stm .test) (accepted && isReport (x .command)) (x .command) (reportsOf after xs),
+      rest .1,
+    )
+
+-- ---- from command 40 on
+
+order-in-de : (stm : Stm) → isIn State.DE stm ≡ true → orderIn (reportOf stm) ≡ orderInTest (stm .test .stage)
+unfolding reportOf reportOutside
+order-in-de stm de =
+    ap (λ state. orderIn (reportFor state stm)) (state-is State.DE (stm .control .state) de) ∙ told (stm .test .stage)
+  where
+    told : (stage : Stage) → orderIn (reportFor State.DE (record {
+      control = stm .control;
+      train = stm .train;
+      track = stm .track;
+      brakes = stm .brakes;
+      feedback = stm .feedback;
+      test = record { stage = stage; result = stm .test .result };
+      kept = stm .kept;
+      last = stm .last;
+    })) ≡ orderInTest stage
+    told Stage.Idle = refl
+    told (Stage.Settling phase) = refl
+    told (Stage.Braking steady reports) = refl
+
+module _ (stm : Stm) (x : Sent) (ys : List Sent) (asked : Asked stm x ys) where
+  abbrev last : Stm
+  last = stateAtEnd (stateAfter stm x) ys
+
+  abbrev reports : List (List ℕ)
+  reports = reportsOf (stateAfter stm x) ys
+
+  abbrev result : Verdict
+  result = stm .test .result
+
+  is-test : codeOf (codeByte (x .command)) ≡ Code.TestBrakes
+  is-test = code-is Code.TestBrakes (codeOf (codeByte (x .command))) (asked .asks)
+
+  asked-in-de : isIn State.DE stm ≡ true
+  unfolding testsOutside
+  asked-in-de =
+      not-false (isIn State.DE stm) (ap (testsOutside stm) (sym is-test) ∙ passed stm x (asked .accepted) .1 .inDE)
+
+  begins-in-de : isIn State.DE (stateAfter stm x) ≡ true
+  begins-in-de =
+      ap (λ control. isState State.DE (control .state))
+      (state-stays stm x (asked .accepted) (ap (λ code. isCode Code.Start code || isCode Code.ChangeState code) is-test)
+      (ap (λ code. (isCode Code.Odometer code && isIn State.DA stm) && stateAfter stm x .brakes .failed) is-test))
+      ∙ asked-in-de
+
+  begins-afresh : stateAfter stm x .test ≡ begunTest (stm .test)
+  begins-afresh = test-after-by stm x (asked .accepted) ∙ ap (λ code. testBy code (operandsOf (x .command)) stm) is-test
+
+  -- the train of the unit that was asked
+  train-then : stateAfter stm x .train ≡ withExtra (stm .train) (stateAfter stm x .train .times .extra)
+  train-then = train-once stm x true (asked .accepted) (λ _. ap (isCode Code.Start) is-test)
+
+  test-last : (last .test ≡ byReports (stm .train) reports (begunTest (stm .test))) × (isIn State.DE last ≡ true)
+  test-last =
+      let over = test-over (stm .train) (stateAfter stm x) ys (asked .alone) begins-in-de train-then in
+      (over .0 ∙ ap (byReports (stm .train) reports) begins-afresh, over .1)
+
+  written-last : last .last .report ≡ reportOf last
+  written-last = report-at-end (stateAfter stm x) ys (report-kept stm x (asked .accepted))
+
+  order-last : (test : BrakeTest) → byReports (stm .train) reports (begunTest (stm .test)) ≡ test
+      → orderIn (last .last .report) ≡ orderInTest (test .stage)
+  order-last test is =
+      ap orderIn written-last ∙ order-in-de last (test-last .1) ∙ ap (λ t. orderInTest (t .stage)) (test-last .0 ∙ is)
+
+  tells-last : MessagesTell last (messagesIn (last .last .report))
+  tells-last = subst (λ report. MessagesTell last (messagesIn report)) (sym written-last) (messages-tell last)
+
+  runs-last : (test : BrakeTest) → byReports (stm .train) reports (begunTest (stm .test)) ≡ test
+      → bitOf 3 (messagesIn (last .last .report)) ≡ runsIn (test .stage)
+  runs-last test is = tells-last .running ∙ ap (λ t. runsIn (t .stage)) (test-last .0 ∙ is)
+
+  result-last : (test : BrakeTest) → byReports (stm .train) reports (begunTest (stm .test)) ≡ test → last .test .result ≡ test .result
+  result-last test is = ap (λ t. t .result) (test-last .0 ∙ is)
+
+  course-last : Course (stm .train) result reports (byReports (stm .train) reports (begunTest (stm .test)))
+  course-last = course (stm .train) result (asked .limit) reports
+
+pub test-orders : TestOrders
+test-orders stm x ys asked = (
+  λ b. order-last stm x ys asked _ (brakes-is (stm .train) (stm .test .result) (reports stm x ys asked) b),
+  λ none. go none (course-last stm x ys asked),
+)
+  where
+    go : (Brakes (stm .train) (reports stm x ys asked) → ⊥)
+        → Course (stm .train) (stm .test .result) (reports stm x ys asked)
+        (byReports (stm .train) (reports stm x ys asked) (begunTest (stm .test)))
+        → orderIn (last stm x ys asked .last .report) ≡ 0
+    go none (settles s is) = order-last stm x ys asked _ is
+    go none (brakes b is) = absurd (none b)
+    go none (Course.passed e is) = order-last stm x ys asked _ is
+    go none (failed e is) = order-last stm x ys asked _ is
