@@ -36,6 +36,7 @@ pub mod UnitParts
 pub mod Reporting
 pub mod Keeps
 pub mod TestRuns
+pub mod TestAlone
 pub mod Changes
 pub mod Monotone
 pub mod TwoTracks

@@ -18,8 +18,8 @@ use Rattle.pressure.specs.Convert.{halvedOf, isLow, isHigh, sensorFault, pressu
 use Rattle.pressure.specs.Reference.{dropOf}
 use Rattle.pressure.specs.Report.{pressureAt, reported, reportedTo}
 use Rattle.rules.specs.Numbers.{isAccepted, isCode, isState, codeOf, stateOf}
-use Rattle.rules.specs.Operands.{codeByte, bitOf, trainOf, readingOf}
-use Rattle.rules.specs.BrakeTest.{isRunning, hasPassed, begunTest, endedTest, leftTest, isUnfit, phaseOn, hasDropped, goneOn, testedAt, extraLeft}
+use Rattle.rules.specs.Operands.{codeByte, bitOf, extraOf, trainOf, readingOf}
+use Rattle.rules.specs.BrakeTest.{isRunning, hasPassed, hasFailed, begunTest, endedTest, leftTest, isUnfit, phaseOn, hasDropped, goneOn, testedAt, extraLeft}
 use Rattle.rules.specs.Odometer.{withExtra}
 use Rattle.rules.specs.Reports.{reportOutside, reportFor, reportOf}
 use Rattle.rules.specs.Commands.{carriedOut}
@@ -29,7 +29,7 @@ use Rattle.rules.specs.History.{Tells, firstOperand, speedOf, externalOf
 use Rattle.rules.specs.Braking.{readingIn}
 use Rattle.rules.specs.Written.{orderInTest, runsIn, MessagesTell}
 use Rattle.rules.specs.Units.{IsUnit, isExtraSound, StageSound}
-use Rattle.rules.specs.TestRuns.{endsTest, Asked, reportsOf, isFit, dropsFrom, Brakes, TestOrders, TestRuns, TestEnds, ResultStands}
+use Rattle.rules.specs.TestRuns.{endsTest, Asked, reportsOf, isFit, dropsFrom, Brakes, Passes, Runs, Fails, EndedBy, TestOrders, TestRuns, TestEnds, ResultStands}
 use Rattle.rules.specs.TestRuns.{NoTestUnasked, LeavingFailsTest, NoTestOutsideDE, ExtraByFlag, ExtraUntilPassed, PassedHasNoExtra, NoExtraStays}
 use Rattle.rules.specs.declared.Code.{Code}
 use Rattle.rules.specs.declared.State.{State}
@@ -37,13 +37,14 @@ use Rattle.rules.specs.declared.Train.{Train}
 use Rattle.rules.specs.declared.Stage.{Stage}
 use Rattle.rules.specs.declared.Verdict.{Verdict}
 use Rattle.rules.specs.declared.BrakeTest.{BrakeTest}
+use Rattle.rules.specs.declared.Reading.{Reading}
 use Rattle.rules.specs.declared.Stm.{Stm}
 use Rattle.rules.proofs.Answers.{after-other, passed}
-use Rattle.rules.proofs.Tests.{impossible, and-left, neither}
+use Rattle.rules.proofs.Tests.{impossible, and-left, and-right, neither}
 use Rattle.rules.proofs.Told.{code-is, state-is}
 use Rattle.rules.proofs.Ordering.{doneBy}
 use Rattle.rules.proofs.Standing.{kept-to-end}
-use Rattle.rules.proofs.After.{train-after, test-after, testIn, testBy, test-by, extraBy, extra-by}
+use Rattle.rules.proofs.After.{train-after, test-after, testIn, testBy, test-by, extraIn, extraBy, extra-by}
 use Rattle.rules.proofs.Ground.{spared-first}
 use Rattle.rules.proofs.Readings.{train-once}
 use Rattle.rules.proofs.Fresh.{state-stays}
@@ -283,6 +284,12 @@ module _ (stm : Stm) (x : Sent) (ys : List Sent) (asked : Asked stm x ys) where
   course-last : Course (stm .train) result reports (byReports (stm .train) reports (begunTest (stm .test)))
   course-last = course (stm .train) result (asked .limit) reports
 
+-- what the reports have made of it
+abbrev WentOn : (stm : Stm) (x : Sent) (ys : List Sent) → Asked stm x ys → Type 0
+WentOn stm x ys asked =
+    Course (stm .train) (stm .test .result) (reports stm x ys asked)
+    (byReports (stm .train) (reports stm x ys asked) (begunTest (stm .test)))
+
 pub test-orders : TestOrders
 test-orders stm x ys asked = (
   λ b. order-last stm x ys asked _ (brakes-is (stm .train) (stm .test .result) (reports stm x ys asked) b),
@@ -290,10 +297,249 @@ test-orders stm x ys asked = (
 )
   where
     go : (Brakes (stm .train) (reports stm x ys asked) → ⊥)
-        → Course (stm .train) (stm .test .result) (reports stm x ys asked)
-        (byReports (stm .train) (reports stm x ys asked) (begunTest (stm .test)))
+        → WentOn stm x ys asked
         → orderIn (last stm x ys asked .last .report) ≡ 0
     go none (settles s is) = order-last stm x ys asked _ is
     go none (brakes b is) = absurd (none b)
     go none (Course.passed e is) = order-last stm x ys asked _ is
     go none (failed e is) = order-last stm x ys asked _ is
+
+pub test-runs : TestRuns
+test-runs stm x ys asked = (λ bit. go bit (course-last stm x ys asked), back)
+  where
+    go : bitOf 3 (messagesIn (last stm x ys asked .last .report)) ≡ true
+        → WentOn stm x ys asked
+        → Runs (stm .train) (reports stm x ys asked)
+    go bit (settles s is) = inl s
+    go bit (brakes b is) = inr b
+    go bit (Course.passed e is) = impossible (sym (runs-last stm x ys asked _ is) ∙ bit)
+    go bit (failed e is) = impossible (sym (runs-last stm x ys asked _ is) ∙ bit)
+
+    back : Runs (stm .train) (reports stm x ys asked) → bitOf 3 (messagesIn (last stm x ys asked .last .report)) ≡ true
+    back (inl s) = runs-last stm x ys asked _ (settles-is (stm .train) (stm .test .result) (reports stm x ys asked) s)
+    back (inr b) = runs-last stm x ys asked _ (brakes-is (stm .train) (stm .test .result) (reports stm x ys asked) b)
+
+pub test-ends : TestEnds
+test-ends stm x ys asked over = (
+  (λ bit. passed-by bit (course-last stm x ys asked),
+  λ e. tells-last stm x ys asked .passed .1
+      (result-last stm x ys asked _ (passed-is (stm .train) (stm .test .result) (reports stm x ys asked) e))),
+  (λ bit. failed-by bit (course-last stm x ys asked),
+  λ e. tells-last stm x ys asked .failedTest .1
+      (result-last stm x ys asked _ (failed-is (stm .train) (stm .test .result) (reports stm x ys asked) e))),
+)
+  where
+    passed-by : bitOf 4 (messagesIn (last stm x ys asked .last .report)) ≡ true → WentOn stm x ys asked
+        → EndedBy (Passes (stm .train)) (reports stm x ys asked)
+    passed-by bit (settles s is) = impossible (sym over ∙ runs-last stm x ys asked _ is)
+    passed-by bit (brakes b is) = impossible (sym over ∙ runs-last stm x ys asked _ is)
+    passed-by bit (Course.passed e is) = e
+    passed-by bit (failed e is) =
+        impossible (ap hasPassed (sym (result-last stm x ys asked _ is) ∙ tells-last stm x ys asked .passed .0 bit))
+
+    failed-by : bitOf 5 (messagesIn (last stm x ys asked .last .report)) ≡ true → WentOn stm x ys asked
+        → EndedBy (Fails (stm .train)) (reports stm x ys asked)
+    failed-by bit (settles s is) = impossible (sym over ∙ runs-last stm x ys asked _ is)
+    failed-by bit (brakes b is) = impossible (sym over ∙ runs-last stm x ys asked _ is)
+    failed-by bit (Course.passed e is) =
+        impossible (ap hasFailed (sym (result-last stm x ys asked _ is) ∙ tells-last stm x ys asked .failedTest .0 bit))
+    failed-by bit (failed e is) = e
+
+pub result-stands : ResultStands
+result-stands stm x ys asked bit = go (course-last stm x ys asked)
+  where
+    go : WentOn stm x ys asked → last stm x ys asked .test .result ≡ stm .test .result
+    go (settles s is) = result-last stm x ys asked _ is
+    go (brakes b is) = result-last stm x ys asked _ is
+    go (Course.passed e is) = impossible (sym (runs-last stm x ys asked _ is) ∙ bit)
+    go (failed e is) = impossible (sym (runs-last stm x ys asked _ is) ∙ bit)
+
+-- ---- no test that is not asked for
+
+left-idle : (stage : Stage) (result : Verdict) → stage ≡ Stage.Idle
+    → leftTest (record { stage = stage; result = result }) ≡ record { stage = stage; result = result }
+left-idle Stage.Idle result e = refl
+left-idle (Stage.Settling phase) result e = impossible (sym (ap isRunning e))
+left-idle (Stage.Braking steady reports) result e = impossible (sym (ap isRunning e))
+
+idle-in : (state : State) (r : Reading) (stm : Stm) → stm .test .stage ≡ Stage.Idle → testIn r stm state ≡ stm .test
+idle-in State.DE r stm e = none-tested (stm .train) _ r (stm .test) e
+idle-in State.CS r stm e = refl
+idle-in State.HS r stm e = refl
+idle-in State.DA r stm e = refl
+idle-in State.FA r stm e = refl
+
+idle-by : (code : Code) (s : List ℕ) (stm : Stm) → (isCode Code.TestBrakes code || isCode Code.Start code) ≡ false
+    → stm .test .stage ≡ Stage.Idle → testBy code s stm ≡ stm .test
+idle-by Code.Start s stm n e = impossible (sym n)
+idle-by Code.ChangeState s stm n e = left-idle (stm .test .stage) (stm .test .result) e
+idle-by Code.Odometer s stm n e = idle-in (stm .control .state) (readingOf s) stm e
+idle-by Code.NewCurve s stm n e = refl
+idle-by Code.EndCurve s stm n e = refl
+idle-by Code.NewSection s stm n e = refl
+idle-by Code.EndSection s stm n e = refl
+idle-by Code.StopPassed s stm n e = refl
+idle-by Code.Proceed s stm n e = refl
+idle-by Code.BaliseError s stm n e = refl
+idle-by Code.TestBrakes s stm n e = impossible (sym n)
+
+abbrev begins : Stm → List ℕ → Bool
+begins before command = isOf Code.TestBrakes command || isOf Code.Start command
+
+pub no-test-unasked : NoTestUnasked
+no-test-unasked stm xs idle n =
+    kept-to-end (λ s. s .test ≡ stm .test) begins begins
+    (λ s x e f g k.
+    test-after-by s x e
+    ∙ idle-by (codeOf (codeByte (x .command))) (operandsOf (x .command)) s f (ap (λ test. test .stage) k ∙ idle)
+    ∙ k)
+    stm xs n n refl
+
+-- ---- leaving DE
+
+left-told : (stage : Stage) (result : Verdict)
+    → (leftTest (record { stage = stage; result = result }) .stage ≡ Stage.Idle)
+    × (runsIn stage ≡ true → leftTest (record { stage = stage; result = result }) .result ≡ Verdict.Failed)
+    × (runsIn stage ≡ false → leftTest (record { stage = stage; result = result }) ≡ record { stage = stage; result = result })
+left-told Stage.Idle result = (refl, λ e. impossible e, λ e. refl)
+left-told (Stage.Settling phase) result = (refl, λ e. refl, λ e. impossible (sym e))
+left-told (Stage.Braking steady reports) result = (refl, λ e. refl, λ e. impossible (sym e))
+
+pub leaving-fails-test : LeavingFailsTest
+leaving-fails-test stm x e c =
+    let is =
+    test-after-by stm x e
+    ∙ ap (λ code. testBy code (operandsOf (x .command)) stm) (code-is Code.ChangeState (codeOf (codeByte (x .command))) c) in
+    rw is (left-told (stm .test .stage) (stm .test .result))
+
+idle-outside : (train : Train) (state : State) (stage : Stage) → isState State.DE state ≡ false → StageSound train state stage
+    → stage ≡ Stage.Idle
+idle-outside train state Stage.Idle out s = refl
+idle-outside train state (Stage.Settling phase) out s = impossible (sym out ∙ s .0)
+idle-outside train state (Stage.Braking steady reports) out s = impossible (sym out ∙ s .0)
+
+pub no-test-outside-de : NoTestOutsideDE
+no-test-outside-de stm xs unit out =
+    let end = stateAtEnd stm xs in
+    idle-outside (end .train) (end .control .state) (end .test .stage) out (run-keeps-unit stm xs unit .stage)
+
+-- ---- the extra
+
+flag-extra : (flag : Bool) → extraOf flag ≡ cond flag 50 0
+flag-extra true = refl
+flag-extra false = refl
+
+pub extra-by-flag : ExtraByFlag
+unfolding trainOf
+extra-by-flag stm x e c =
+    extra-after-by stm x e
+    ∙ ap (λ code. extraBy code (operandsOf (x .command)) stm) (code-is Code.Start (codeOf (codeByte (x .command))) c)
+    ∙ flag-extra (bitOf 2 (firstOperand (x .command)))
+
+-- where the result after a command is no pass, the extra stays
+extra-kept : (result : Verdict) (extra : ℕ) → hasPassed result ≡ false → extraLeft result extra ≡ extra
+extra-kept Verdict.Pending extra e = refl
+extra-kept Verdict.Passed extra e = impossible (sym e)
+extra-kept Verdict.Failed extra e = refl
+
+extra-in : (state : State) (r : Reading) (stm : Stm) → hasPassed (testIn r stm state .result) ≡ false
+    → extraIn r stm state ≡ stm .train .times .extra
+extra-in State.DE r stm e = extra-kept (testIn r stm State.DE .result) (stm .train .times .extra) e
+extra-in State.CS r stm e = refl
+extra-in State.HS r stm e = refl
+extra-in State.DA r stm e = refl
+extra-in State.FA r stm e = refl
+
+unpassed-by : (code : Code) (s : List ℕ) (stm : Stm) → isCode Code.Start code ≡ false → hasPassed (testBy code s stm .result) ≡ false
+    → extraBy code s stm ≡ stm .train .times .extra
+unpassed-by Code.Start s stm n e = impossible (sym n)
+unpassed-by Code.ChangeState s stm n e = refl
+unpassed-by Code.Odometer s stm n e = extra-in (stm .control .state) (readingOf s) stm e
+unpassed-by Code.NewCurve s stm n e = refl
+unpassed-by Code.EndCurve s stm n e = refl
+unpassed-by Code.NewSection s stm n e = refl
+unpassed-by Code.EndSection s stm n e = refl
+unpassed-by Code.StopPassed s stm n e = refl
+unpassed-by Code.Proceed s stm n e = refl
+unpassed-by Code.BaliseError s stm n e = refl
+unpassed-by Code.TestBrakes s stm n e = refl
+
+not-passed : (stm : Stm) → not (bitOf 4 (messagesIn (reportOf stm))) ≡ true → hasPassed (stm .test .result) ≡ false
+not-passed stm e = go (stm .test .result) (messages-tell stm .passed .1)
+  where
+    go : (result : Verdict) → (result ≡ Verdict.Passed → bitOf 4 (messagesIn (reportOf stm)) ≡ true) → hasPassed result ≡ false
+    go Verdict.Pending h = refl
+    go Verdict.Passed h = impossible (sym (not-true (bitOf 4 (messagesIn (reportOf stm))) e) ∙ h refl)
+    go Verdict.Failed h = refl
+
+abbrev unpassed : Stm → Bool
+unpassed s = not (bitOf 4 (messagesIn (s .last .report)))
+
+extra-once : (stm : Stm) (x : Sent) (accepted : Bool) → isAccepted (answerTo stm x) ≡ accepted
+    → (accepted ≡ true → isOf Code.Start (x .command) ≡ false) → unpassed (stateAfter stm x) ≡ true
+    → stateAfter stm x .train .times .extra ≡ stm .train .times .extra
+extra-once stm x true e n h =
+    let code = codeOf (codeByte (x .command)) in
+    let s = operandsOf (x .command) in
+    let none = not-passed (stateAfter stm x) (subst (λ report. not (bitOf 4 (messagesIn report)) ≡ true) (report-kept stm x e) h) in
+    extra-after-by stm x e ∙ unpassed-by code s stm (n refl) (ap (λ test. hasPassed (test .result)) (sym (test-after-by stm x e)) ∙ none)
+extra-once stm x false e n h = ap (λ s. s .train .times .extra) (after-other stm x e)
+
+through-first : (test : Stm → Bool) (stm : Stm) (xs : List Sent) → standsThrough test stm xs ≡ true → test stm ≡ true
+unfolding standsThrough
+through-first test stm [] e = e
+through-first test stm (x ∷ xs) e = and-left (test stm) (standsThrough test (stateAfter stm x) xs) e
+
+pub extra-until-passed : ExtraUntilPassed
+unfolding stateAtEnd standsThrough
+extra-until-passed stm [] n through = refl
+extra-until-passed stm (x ∷ xs) n through =
+    let t = spared-first (λ before command. isOf Code.Start command) stm x xs n in
+    let after = stateAfter stm x in
+    let rest = and-right (unpassed stm) (standsThrough unpassed after xs) through in
+    extra-until-passed after xs (t .1) rest
+    ∙ extra-once stm x (isAccepted (answerTo stm x)) refl (t .0) (through-first unpassed after xs rest)
+
+pub passed-has-no-extra : PassedHasNoExtra
+passed-has-no-extra stm x unit e bit =
+    let after = stateAfter stm x in
+    let is = messages-tell after .passed .0 (subst (λ report. bitOf 4 (messagesIn report) ≡ true) (written-is stm x e) bit) in
+    eqb-true (after .train .times .extra) 0
+    (ap (isExtraSound (after .train .times .extra)) (sym is) ∙ call-keeps-unit stm x unit .extra)
+
+-- once gone
+zero-left : (result : Verdict) (extra : ℕ) → extra ≡ 0 → extraLeft result extra ≡ 0
+zero-left Verdict.Pending extra e = e
+zero-left Verdict.Passed extra e = refl
+zero-left Verdict.Failed extra e = e
+
+zero-in : (state : State) (r : Reading) (stm : Stm) → stm .train .times .extra ≡ 0 → extraIn r stm state ≡ 0
+zero-in State.DE r stm e = zero-left (testIn r stm State.DE .result) (stm .train .times .extra) e
+zero-in State.CS r stm e = e
+zero-in State.HS r stm e = e
+zero-in State.DA r stm e = e
+zero-in State.FA r stm e = e
+
+zero-by : (code : Code) (s : List ℕ) (stm : Stm) → isCode Code.Start code ≡ false → stm .train .times .extra ≡ 0 → extraBy code s stm ≡ 0
+zero-by Code.Start s stm n e = impossible (sym n)
+zero-by Code.ChangeState s stm n e = e
+zero-by Code.Odometer s stm n e = zero-in (stm .control .state) (readingOf s) stm e
+zero-by Code.NewCurve s stm n e = e
+zero-by Code.EndCurve s stm n e = e
+zero-by Code.NewSection s stm n e = e
+zero-by Code.EndSection s stm n e = e
+zero-by Code.StopPassed s stm n e = e
+zero-by Code.Proceed s stm n e = e
+zero-by Code.BaliseError s stm n e = e
+zero-by Code.TestBrakes s stm n e = e
+
+abbrev starts : Stm → List ℕ → Bool
+starts before command = isOf Code.Start command
+
+pub zero-after : (stm : Stm) (x : Sent) → isAccepted (answerTo stm x) ≡ true → isOf Code.Start (x .command) ≡ false
+    → stm .train .times .extra ≡ 0 → stateAfter stm x .train .times .extra ≡ 0
+zero-after stm x e n none = extra-after-by stm x e ∙ zero-by (codeOf (codeByte (x .command))) (operandsOf (x .command)) stm n none
+
+pub no-extra-stays : NoExtraStays
+no-extra-stays stm xs none n =
+    kept-to-end (λ s. s .train .times .extra ≡ 0) starts starts (λ s x e f g k. zero-after s x e f k) stm xs n n none

@@ -86,23 +86,23 @@ cond-four true a b c d a′ b′ c′ d′ = refl
 cond-four false a b c d a′ b′ c′ d′ = refl
 
 module _ (stm : Stm) where
-  abbrev judged : List Judged
+  abbrev pub judged : List Judged
   judged = judgedNow (stm .train) (stm .kept) (stm .track .curves)
 
-  abbrev vmax : ℕ
+  abbrev pub vmax : ℕ
   vmax = vmaxOf (stm .train) (stm .track)
 
   abbrev pub shown : Candidate
   shown = chosen (stm .track .curves) judged
 
-  abbrev fourth : (Candidate → ℕ) → ℕ → ℕ
+  abbrev pub fourth : (Candidate → ℕ) → ℕ → ℕ
   fourth field none = cond (shown .judged .held) (field shown) none
 
-  abbrev modeOfShown : Candidate → ℕ
+  abbrev pub modeOfShown : Candidate → ℕ
   modeOfShown c = modeNumber (modeOf (isOver (stm .train) (stm .kept) c) (isInsufficient (stm .train) (stm .feedback)) (shownAs c))
 
   -- the report, field by field
-  abbrev inDA : List ℕ
+  abbrev pub inDA : List ℕ
   inDA =
       3
       ∷ orderNumber (orderOf (stm .train .softly) (stm .brakes .causes))
@@ -115,7 +115,7 @@ module _ (stm : Stm) where
       ∷ offeredOf (seenIn stm) (stm .brakes .causes)
       ∷ four (changeOf (stm .train) (stm .kept) shown) [])))
 
-  da-fields : reportInDA stm ≡ inDA
+  pub da-fields : reportInDA stm ≡ inDA
   unfolding reportInDA reportWith shownFields
   da-fields =
       ap (λ shown. 3 ∷ orderNumber (orderOf (stm .train .softly) (stm .brakes .causes))
@@ -396,7 +396,7 @@ report-at-end stm (x ∷ xs) h = report-at-end (stateAfter stm x) xs (kept (isAc
 
 -- ---- messages
 
-messages-in : (stm : Stm) (state : State) → messagesIn (reportFor state stm) ≡ messagesOf (stm .brakes) (stm .feedback) (stm .test)
+pub messages-in : (stm : Stm) (state : State) → messagesIn (reportFor state stm) ≡ messagesOf (stm .brakes) (stm .feedback) (stm .test)
 unfolding reportOutside
 messages-in stm State.DE = refl
 messages-in stm State.CS = refl

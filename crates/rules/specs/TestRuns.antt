@@ -193,7 +193,6 @@ ExtraUntilPassed =
     (stm : Stm) (xs : List Sent)
     → noneAccepted (λ before command. isOf Code.Start command) stm xs ≡ true
     → standsThrough (λ s. not (bitOf 4 (messagesIn (s .last .report)))) stm xs ≡ true
-    → IsUnit stm
     → stateAtEnd stm xs .train .times .extra ≡ stm .train .times .extra
 
 -- it is gone where one has, in that very report,
@@ -242,7 +241,7 @@ TestTouchesNothing =
     (u w : Stm) (x : Sent)
     → LikeButTest u w → w .last .bytes ≡ u .last .bytes
     → isOf Code.TestBrakes (x .command) ≡ false
-    → (isIn State.DA (stateAfter u x) ≡ true → w .train .times .extra ≡ u .train .times .extra)
+    → ((isIn State.DA u || isIn State.DA (stateAfter u x)) ≡ true → w .train .times .extra ≡ u .train .times .extra)
     → (answerTo w x ≡ answerTo u x)
     × LikeButTest (stateAfter u x) (stateAfter w x)
     × (isAccepted (answerTo u x) ≡ true → ReportsLike (momentOf u x .area) (momentOf w x .area))
