@@ -14,7 +14,7 @@ use Rattle.rules.specs.Runs.{send, Moment, momentOf, stateAfter}
 use Rattle.rules.specs.History.{sum, stateIn, orderIn, causesIn, permittedIn, vmaxIn, idIn, shownIn, barIn, modeIn}
 use Rattle.rules.specs.History.{messagesIn, offeredIn}
 use Rattle.rules.specs.Tables.{Command, start, state, report, curve, curveEnd, section, sectionEnd, stop, proceed}
-use Rattle.rules.specs.Tables.{baliseError, sent, further, halts, withReference}
+use Rattle.rules.specs.Tables.{baliseError, testBrakes, sent, further, halts, withReference}
 use Rattle.rules.specs.declared.Answer.{Answer}
 use Rattle.rules.specs.declared.Stm.{Stm}
 
@@ -101,6 +101,10 @@ fastTrain = start 1 300 400 700 500 3 10 25 40 10 15 50 380 2
 
 abbrev pub cylinderTrain : Command
 cylinderTrain = start 2 300 400 700 500 3 10 25 40 10 15 50 380 2
+
+-- 02, F-3: with flag bits 0 and 2
+abbrev pub untestedTrain : Command
+untestedTrain = start 5 300 400 700 500 3 10 25 40 10 15 50 380 2
 
 -- a start whose train is 1,001 m long
 abbrev pub tooLong : Command
@@ -690,6 +694,91 @@ laterCases =
     ∷ after (tooLong ∷ curve 7 0 1000 40 0 ∷ []) (answer 0 ∷ stateIs 2 ∷ [])
     ∷ []
 
+-- ---- brake test A (02, F-3)
+
+-- a train with T_B 3 in DE, asked for a test, after 30 reports with 500 kPa
+abbrev pub testCases : List Case
+testCases =
+    -- "At the report that settles it, full service is ordered with no cause bit", with flag bit 0 too; ground alone does not matter
+    after (halts ∷ []) (written (0 ∷ 2 ∷ 0 ∷ 0 ∷ 0 ∷ 0 ∷ 0 ∷ 0 ∷ 255 ∷ 0 ∷ 0 ∷ 0 ∷ 8 ∷ 0 ∷ 255 ∷ 255 ∷ 255 ∷ 255 ∷ []) ∷ [])
+    ∷ after (report 0 1200 0 1000 0 ∷ []) (order 2 ∷ messages 8 ∷ [])
+    -- "30 reports within 20 kPa": 480 settles it at 500, 479.5 does not; nor does a drop of 60 before it
+    ∷ after (withPressure 960 ∷ []) (order 2 ∷ messages 8 ∷ [])
+    ∷ after (withPressure 959 ∷ []) (order 0 ∷ messages 8 ∷ [])
+    ∷ after (withPressure 880 ∷ []) (order 0 ∷ messages 8 ∷ [])
+    ∷ after (withPressure 960 ∷ withPressure 880 ∷ []) (order 0 ∷ messages 16 ∷ [])
+    -- "a drop of 60 kPa": 440 has it from 500, 440.5 has not; at a report of count 1 to T_B, the first and the third
+    ∷ after (halts ∷ withPressure 880 ∷ []) (order 0 ∷ causesAre [] ∷ messages 16 ∷ [])
+    ∷ after (halts ∷ withPressure 881 ∷ []) (order 2 ∷ messages 8 ∷ [])
+    ∷ after (halts ∷ halts ∷ halts ∷ []) (order 2 ∷ messages 8 ∷ [])
+    ∷ after (halts ∷ halts ∷ halts ∷ withPressure 880 ∷ []) (order 0 ∷ messages 16 ∷ [])
+    ∷ after (halts ∷ halts ∷ halts ∷ withPressure 881 ∷ []) (order 0 ∷ messages 32 ∷ [])
+    ∷ after (halts ∷ halts ∷ halts ∷ halts ∷ withPressure 880 ∷ []) (order 0 ∷ messages 32 ∷ [])
+    -- "A report with P_EXT below −50 or above 955, or with speed above 0, fails the test before anything else"
+    ∷ after (atSpeed 1 0 ∷ []) (order 0 ∷ messages 32 ∷ [])
+    ∷ after (withPressure 1911 ∷ []) (order 0 ∷ messages 36 ∷ [])
+    ∷ after (withPressure 1910 ∷ []) (order 0 ∷ messages 8 ∷ [])
+    ∷ after (withPressure 0xFF9B ∷ []) (order 0 ∷ messages 36 ∷ [])
+    ∷ after (withPressure 0xFF9C ∷ []) (order 0 ∷ messages 8 ∷ [])
+    ∷ after (halts ∷ report 1 0 0 880 0 ∷ []) (order 0 ∷ messages 32 ∷ [])
+    ∷ after (halts ∷ withPressure 0xFF9B ∷ []) (order 0 ∷ messages 36 ∷ [])
+    ∷ after (halts ∷ withPressure 0xFF9C ∷ []) (order 0 ∷ messages 16 ∷ [])
+    -- "15, test already running"; once it has ended another may be asked for
+    ∷ after (testBrakes ∷ []) (refused 15 ∷ [])
+    ∷ after (halts ∷ testBrakes ∷ []) (refused 15 ∷ [])
+    ∷ after (testBrakes ∷ halts ∷ []) (order 2 ∷ [])
+    ∷ after (atSpeed 1 0 ∷ testBrakes ∷ []) (answer 0 ∷ order 0 ∷ messages 40 ∷ [])
+    -- "also while another runs"
+    ∷ after (halts ∷ withPressure 880 ∷ testBrakes ∷ []) (messages 24 ∷ [])
+    ∷ after (halts ∷ withPressure 880 ∷ testBrakes ∷ again testBrakes ∷ []) (answer 100 ∷ messages 24 ∷ [])
+    ∷ after (halts ∷ withPressure 880 ∷ testBrakes ∷ atSpeed 1 0 ∷ []) (messages 32 ∷ [])
+    -- "Leaving DE ends an unfinished test as failed"; a refused 02 does not, nor does it end one that has ended
+    ∷ after (state 1 ∷ []) (stateIs 1 ∷ messages 32 ∷ [])
+    ∷ after (halts ∷ state 1 ∷ []) (stateIs 1 ∷ order 0 ∷ messages 32 ∷ [])
+    ∷ after (halts ∷ state 3 ∷ []) (stateIs 3 ∷ order 0 ∷ messages 32 ∷ [])
+    ∷ after (halts ∷ state 4 ∷ []) (stateIs 4 ∷ order 3 ∷ messages 32 ∷ [])
+    ∷ after (state 3 ∷ []) (refused 11 ∷ [])
+    ∷ after (state 2 ∷ halts ∷ []) (order 2 ∷ messages 8 ∷ [])
+    ∷ after (halts ∷ withPressure 880 ∷ state 3 ∷ []) (stateIs 3 ∷ messages 16 ∷ [])
+    ∷ after (halts ∷ withPressure 880 ∷ state 1 ∷ testBrakes ∷ []) (refused 14 ∷ [])
+    -- a start forgets it
+    ∷ after (halts ∷ untestedTrain ∷ []) (order 0 ∷ messages 0 ∷ [])
+    ∷ after (halts ∷ withPressure 880 ∷ untestedTrain ∷ []) (messages 0 ∷ [])
+    -- "the unit's own feedback goes on untouched": it has been set with the test's, and is not begun afresh by another
+    ∷ after (halts ∷ withPressure 880 ∷ testBrakes ∷ state 3 ∷ []) (answer 0 ∷ [])
+    ∷ []
+
+-- the same train in DA, with the extra: 250 cm further off for each of its 50 tenths in D, C, permitted, B and Bf, but not in E and F
+abbrev pub extraCases : List Case
+extraCases =
+    after (approaches 0 75325 1000 0) (shows 1 1 0 0 ∷ [])
+    ∷ after (approaches 0 75324 1000 0) (shows 1 3 1 1 ∷ [])
+    ∷ after (approaches 0 65325 1000 0) (shows 1 3 1 1 ∷ [])
+    ∷ after (approaches 0 65324 1000 0) (shows 1 4 2 2 ∷ [])
+    ∷ after (approaches 0 57825 1000 0) (shows 1 4 2 2 ∷ permitted 90 ∷ [])
+    ∷ after (approaches 0 57824 1000 0) (shows 1 4 2 3 ∷ permitted 89 ∷ [])
+    ∷ after (approaches 0 51575 1000 0) (shows 1 4 2 3 ∷ [])
+    ∷ after (approaches 0 51574 1000 0) (shows 1 5 2 3 ∷ [])
+    ∷ after (approaches 0 49075 1000 0) (shows 1 5 2 3 ∷ order 0 ∷ [])
+    ∷ after (approaches 0 49074 1000 0) (shows 1 6 2 4 ∷ order 2 ∷ [])
+    ∷ after (approaches 0 35825 1000 0) (shows 1 6 2 4 ∷ [])
+    ∷ after (approaches 0 35824 1000 0) (shows 1 7 2 4 ∷ [])
+    ∷ after (approaches 0 26456 1000 0) (shows 1 7 2 4 ∷ [])
+    ∷ after (approaches 0 26455 1000 0) (shows 1 8 2 4 ∷ [])
+    -- nor in bit 11's time
+    ∷ after (replicate 3 (tooFast 1000)) (causesAre (0 ∷ []) ∷ [])
+    ∷ after (replicate 4 (tooFast 1000)) (causesAre (0 ∷ 11 ∷ []) ∷ [])
+    ∷ []
+
+-- and after a test that has passed, in DA, with none
+abbrev pub testedCases : List Case
+testedCases =
+    after (approaches 0 36575 1000 0) (shows 1 5 2 3 ∷ order 0 ∷ [])
+    ∷ after (approaches 0 36574 1000 0) (shows 1 6 2 4 ∷ order 2 ∷ [])
+    ∷ after (approaches 0 35825 1000 0) (shows 1 6 2 4 ∷ [])
+    ∷ after (approaches 0 35824 1000 0) (shows 1 7 2 4 ∷ [])
+    ∷ []
+
 -- ---- all of them
 
 -- the cases of a unit that further commands lead to
@@ -729,6 +818,12 @@ cases =
     ++ holdAfter freshStm (slowTrain ∷ halts ∷ withPressure 799 ∷ replicate 29 (withPressure 800)) waitingCases
     ++ holdAfter (withReference slowTrain) (replicate 9 (withPressure 940)) referenceCases
     ++ map (holds freshStm) firstCases
+    ++ holdAfter freshStm (untestedTrain ∷ testBrakes ∷ replicate 30 halts) testCases
+    ++ map (holds (startedInDA untestedTrain)) extraCases
+    ++ holdAfter (withReference untestedTrain) (testBrakes ∷ replicate 31 halts ++ (withPressure 880 ∷ state 3 ∷ [])) testedCases
+    -- once it has passed the extra is gone for good: a later test that fails does not bring it back
+    ++ holdAfter (withReference untestedTrain)
+    (testBrakes ∷ replicate 31 halts ++ (withPressure 880 ∷ testBrakes ∷ atSpeed 1 0 ∷ state 3 ∷ [])) testedCases
 
 abbrev pub CasesHold : Type 0
 CasesHold = foldr _&&_ true cases ≡ true
