@@ -4,12 +4,13 @@ use Prim.Native.Nat.{ℕ, _≤_, zero-le}
 use native.Mathlib.Nat.{le-refl}
 use native.Mathlib.Bridge.{IsLe, le-by-compare}
 use native.Mathlib.Omega.{arith}
-use mathlib.Core.Bool.{true, false}
+use mathlib.Core.Bool.{true, false, false≢true}
 use mathlib.Core.List.{[]}
 use Rattle.rules.specs.Places.{freeCurve}
+use Rattle.rules.specs.Commands.{freshStm}
 use Rattle.rules.specs.Runs.{stateAtEnd}
-use Rattle.rules.specs.TwoRuns.{Both, Faster, RefusalsAreNeeded, NoServiceFaultIsNeeded, NoEmergencyFaultIsNeeded, GearIsNeeded, StopsAreNeeded}
-use Rattle.rules.specs.Pairs.{gearPair, stopPassed, stopsPair, dropBetween, servicePair, emergencyPair, stopAhead, refusalsPair}
+use Rattle.rules.specs.TwoRuns.{Both, Faster, RefusalsAreNeeded, NoServiceFaultIsNeeded, NoEmergencyFaultIsNeeded, GearIsNeeded, StopsAreNeeded, NoTestIsNeeded}
+use Rattle.rules.specs.Pairs.{gearPair, stopPassed, stopsPair, dropBetween, servicePair, emergencyPair, stopAhead, refusalsPair, inTest, testPair}
 use Rattle.rules.specs.declared.Stm.{Stm}
 use Rattle.rules.proofs.Computing.{computing}
 use Rattle.rules.proofs.LedUnits.{trains, standing, led, led-weaker, led-short-brake, led-short-check}
@@ -147,3 +148,28 @@ pub refusals-are-needed : RefusalsAreNeeded
 unfolding computing refusalsPair
 refusals-are-needed claim =
     let milder : 28 ≤ 26 = concluded claim refusals-meets .1 .1 .0 refl refl .permitted in omega arith
+
+-- ---- no test
+
+abbrev testing : Stm
+testing = stateAtEnd freshStm inTest
+
+test-meets : Meets true true true true true false testing testing testPair
+unfolding computing testPair
+test-meets = record {
+  first = refl;
+  second = refl;
+  compared = itself testing (trains 700 700 30 13 (le-refl _)) (same-curve freeCurve false);
+  lists = (faster 34 0 1 0 0 1000 0 zero-le, tt);
+  refusals = (refl, tt);
+  service = ((refl, refl), tt);
+  emergency = ((refl, refl), tt);
+  gear = (refl, tt);
+  stops = λ e. absurd (false≢true e);
+  idle = tt;
+}
+
+-- full, and none
+pub no-test-is-needed : NoTestIsNeeded
+unfolding computing testPair
+no-test-is-needed claim = let milder : 2 ≤ 0 = concluded claim test-meets .0 refl refl .order in omega arith

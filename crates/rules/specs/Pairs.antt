@@ -1,11 +1,11 @@
--- Closed pairs of runs for point 3 (specs/TwoRuns): five in each of which one presumption is not met and the second run is milder
+-- Closed pairs of runs for point 3 (specs/TwoRuns): six in each of which one presumption is not met and the second run is milder
 -- than the first, and two that meet them all. Their units are led from the state before any start. Proved in proofs/.
 use Prim.Native.Nat.{ℕ}
 use mathlib.Core.List.{List, [], _∷_}
 use Rattle.rules.specs.Reports.{two}
 use Rattle.rules.specs.Commands.{freshStm}
 use Rattle.rules.specs.Runs.{Sent, stateAtEnd}
-use Rattle.rules.specs.Figures.{numbered, startOf, odometer, intoDA}
+use Rattle.rules.specs.Figures.{numbered, startOf, odometer, intoDA, standstill}
 use Rattle.rules.specs.declared.Code.{Code}
 use Rattle.rules.specs.declared.Stm.{Stm}
 
@@ -84,6 +84,15 @@ refusalsPair =
     ofOne (inDA 700 30 13 stopAhead)
     (odometer 35 500 1200 0 1000 0 ∷ odometer 35 500 0 0 1000 0 ∷ odometer 36 500 0 0 1000 0 ∷ [])
     (odometer 35 10001 1200 0 1000 0 ∷ odometer 35 500 0 0 1000 0 ∷ odometer 36 500 0 0 1000 0 ∷ [])
+
+-- a start, a test that is asked for, and the 31 reports by which its pressure settles
+abbrev pub inTest : List Sent
+inTest = startOf 100 700 30 13 ∷ numbered Code.TestBrakes 2 [] ∷ standstill 3 31
+
+-- without "no test runs" (02, F-3): the test of both brakes, in DE. At the next report the first goes on braking; the second has a
+-- speed, which ends its test and the order
+unfoldable pub testPair : Pair
+testPair = ofOne inTest (odometer 34 0 0 0 1000 0 ∷ []) (odometer 34 1 0 0 1000 0 ∷ [])
 
 -- 40 km/h in 800 m; and a section of 95 km/h and 30 km/h in 250 m. A proceed signal keeps the numbers alike
 abbrev pub farCurve : List Sent
