@@ -1,6 +1,6 @@
 -- Brake test A over a list of commands: its course, its end, its extra. Assumes nothing.
 use mathlib.Core.Path.{_≡_, refl, sym, ap, ap₂, _∙_, subst}
-use Prim.Native.Nat.{ℕ, zero, suc, _≤_}
+use Prim.Native.Nat.{ℕ, zero, suc, _+_}
 use native.Mathlib.Nat.{suc-ne-zero}
 use native.Mathlib.Omega.{arith}
 use mathlib.Core.Bool.{Bool, true, false, cond, not, _&&_, _||_}
@@ -17,6 +17,7 @@ use Rattle.pressure.specs.declared.Measured.{Measured}
 use Rattle.pressure.specs.Convert.{halvedOf, isLow, isHigh, sensorFault, pressureOf}
 use Rattle.pressure.specs.Reference.{dropOf}
 use Rattle.pressure.specs.Report.{pressureAt, reported, reportedTo}
+use Rattle.curve.proofs.Extra.{leads-without-extra}
 use Rattle.rules.specs.Numbers.{isAccepted, isCode, isState, codeOf, stateOf}
 use Rattle.rules.specs.Operands.{codeByte, bitOf, extraOf, trainOf, readingOf}
 use Rattle.rules.specs.BrakeTest.{isRunning, hasPassed, hasFailed, begunTest, endedTest, leftTest, isUnfit, phaseOn, hasDropped, goneOn, testedAt, extraLeft}
@@ -30,7 +31,7 @@ use Rattle.rules.specs.Braking.{readingIn}
 use Rattle.rules.specs.Written.{orderInTest, runsIn, MessagesTell}
 use Rattle.rules.specs.Units.{IsUnit, isExtraSound, StageSound}
 use Rattle.rules.specs.TestRuns.{endsTest, Asked, reportsOf, isFit, dropsFrom, Brakes, Passes, Runs, Fails, EndedBy, TestOrders, TestRuns, TestEnds, ResultStands}
-use Rattle.rules.specs.TestRuns.{NoTestUnasked, LeavingFailsTest, NoTestOutsideDE, ExtraByFlag, ExtraUntilPassed, PassedHasNoExtra, NoExtraStays}
+use Rattle.rules.specs.TestRuns.{NoTestUnasked, LeavingFailsTest, NoTestOutsideDE, ExtraByFlag, NoFlagNoExtra, ExtraUntilPassed, PassedHasNoExtra, NoExtraStays}
 use Rattle.rules.specs.declared.Code.{Code}
 use Rattle.rules.specs.declared.State.{State}
 use Rattle.rules.specs.declared.Train.{Train}
@@ -46,7 +47,7 @@ use Rattle.rules.proofs.Ordering.{doneBy}
 use Rattle.rules.proofs.Standing.{kept-to-end}
 use Rattle.rules.proofs.After.{train-after, test-after, testIn, testBy, test-by, extraIn, extraBy, extra-by}
 use Rattle.rules.proofs.Ground.{spared-first}
-use Rattle.rules.proofs.Readings.{train-once}
+use Rattle.rules.proofs.Readings.{train-once, feedback-over-reports}
 use Rattle.rules.proofs.Fresh.{state-stays}
 use Rattle.rules.proofs.Written.{written-is, report-kept, report-at-end, messages-tell}
 use Rattle.rules.proofs.Keeps.{call-keeps-unit, run-keeps-unit}
@@ -543,3 +544,19 @@ zero-after stm x e n none = extra-after-by stm x e ∙ zero-by (codeOf (codeByte
 pub no-extra-stays : NoExtraStays
 no-extra-stays stm xs none n =
     kept-to-end (λ s. s .train .times .extra ≡ 0) starts starts (λ s x e f g k. zero-after s x e f k) stm xs n n none
+
+-- without the flag
+pub no-flag-no-extra : NoFlagNoExtra
+no-flag-no-extra stm x ys e c flag n =
+    let after = stateAfter stm x in
+    let last = stateAtEnd after ys in
+    let none = extra-by-flag stm x e c ∙ ap (λ f. cond f 50 0) flag in
+    let gone = no-extra-stays after ys none n in
+    leads-without-extra (last .train .times) gone
+    ∙ ap (λ train. record {
+      d = train .times .brake;
+      c = train .times .brake + train .times .c;
+      permitted = train .times .brake + train .times .c + train .times .permitted;
+      b = train .times .brake + train .times .c + train .times .permitted + 30;
+      bf = train .times .brake + train .times .c + train .times .permitted + 30 + train .times .bf;
+    }) (feedback-over-reports after ys n .1)

@@ -748,6 +748,18 @@ testCases =
     ∷ after (halts ∷ withPressure 880 ∷ testBrakes ∷ state 3 ∷ []) (answer 0 ∷ [])
     ∷ []
 
+-- the same train with a reference of 500 kPa, asked for a test after that, and 30 reports with 440: "the steady pressure is the test's
+-- saved one". The 31st settles it, with count 0, and its drop of 60 from 500 is none of the test's
+abbrev pub steadyCases : List Case
+steadyCases =
+    after (withPressure 880 ∷ []) (order 2 ∷ messages 8 ∷ [])
+    ∷ after (withPressure 880 ∷ withPressure 761 ∷ []) (order 2 ∷ messages 8 ∷ [])
+    ∷ after (withPressure 880 ∷ withPressure 760 ∷ []) (order 0 ∷ messages 16 ∷ [])
+    -- "the unit's own feedback goes on untouched": P_REF is 500 still, and a drop of 50 from it is sufficient in D
+    ∷ after (withPressure 880 ∷ state 3 ∷ approaches 0 49074 900 0) (shows 1 6 2 3 ∷ order 0 ∷ [])
+    ∷ after (withPressure 880 ∷ state 3 ∷ approaches 0 49074 901 0) (shows 1 6 2 4 ∷ order 2 ∷ [])
+    ∷ []
+
 -- the same train in DA, with the extra: 250 cm further off for each of its 50 tenths in D, C, permitted, B and Bf, but not in E and F
 abbrev pub extraCases : List Case
 extraCases =
@@ -819,6 +831,7 @@ cases =
     ++ holdAfter (withReference slowTrain) (replicate 9 (withPressure 940)) referenceCases
     ++ map (holds freshStm) firstCases
     ++ holdAfter freshStm (untestedTrain ∷ testBrakes ∷ replicate 30 halts) testCases
+    ++ holdAfter (withReference untestedTrain) (testBrakes ∷ replicate 30 (withPressure 880)) steadyCases
     ++ map (holds (startedInDA untestedTrain)) extraCases
     ++ holdAfter (withReference untestedTrain) (testBrakes ∷ replicate 31 halts ++ (withPressure 880 ∷ state 3 ∷ [])) testedCases
     -- once it has passed the extra is gone for good: a later test that fails does not bring it back

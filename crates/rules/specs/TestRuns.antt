@@ -18,7 +18,7 @@ use Rattle.rules.specs.Operands.{bitOf}
 use Rattle.rules.specs.Places.{anyOf, allOf}
 use Rattle.rules.specs.Odometer.{withExtra}
 use Rattle.rules.specs.Runs.{Sent, Moment, answerTo, stateAfter, momentOf, moments, stateAtEnd, noneAccepted, isOf}
-use Rattle.rules.specs.History.{Tells, firstOperand, speedOf, externalOf, stateIn, orderIn, messagesIn, isIn, isReport, collected, standsThrough}
+use Rattle.rules.specs.History.{Tells, firstOperand, speedOf, externalOf, stateIn, orderIn, messagesIn, isIn, isReport, collected, standsThrough, brakingIn}
 use Rattle.rules.specs.Written.{runsIn}
 use Rattle.rules.specs.Units.{feedbackAfter, IsUnit}
 use Rattle.rules.specs.TwoRuns.{Both}
@@ -186,6 +186,22 @@ ExtraByFlag =
     (stm : Stm) (x : Sent)
     → isAccepted (answerTo stm x) ≡ true → isOf Code.Start (x .command) ≡ true
     → stateAfter stm x .train .times .extra ≡ cond (bitOf 2 (firstOperand (x .command))) 50 0
+
+-- so that without the flag the leads are 01's over any list with no start
+abbrev pub NoFlagNoExtra : Type 0
+NoFlagNoExtra =
+    (stm : Stm) (x : Sent) (ys : List Sent)
+    → isAccepted (answerTo stm x) ≡ true → isOf Code.Start (x .command) ≡ true → bitOf 2 (firstOperand (x .command)) ≡ false
+    → noneAccepted (λ before command. isOf Code.Start command) (stateAfter stm x) ys ≡ true
+    → let times = stateAfter stm x .train .times in
+    brakingIn (stateAtEnd (stateAfter stm x) ys) .leads
+    ≡ record {
+      d = times .brake;
+      c = times .brake + times .c;
+      permitted = times .brake + times .c + times .permitted;
+      b = times .brake + times .c + times .permitted + 30;
+      bf = times .brake + times .c + times .permitted + 30 + times .bf;
+    }
 
 -- "until a test has passed": over any list with no start it is as it was while no test has ended so,
 abbrev pub ExtraUntilPassed : Type 0
