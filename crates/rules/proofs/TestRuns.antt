@@ -322,12 +322,16 @@ test-runs stm x ys asked = (λ bit. go bit (course-last stm x ys asked), back)
 
 pub test-ends : TestEnds
 test-ends stm x ys asked over = (
-  (λ bit. passed-by bit (course-last stm x ys asked),
-  λ e. tells-last stm x ys asked .passed .1
-      (result-last stm x ys asked _ (passed-is (stm .train) (stm .test .result) (reports stm x ys asked) e))),
-  (λ bit. failed-by bit (course-last stm x ys asked),
-  λ e. tells-last stm x ys asked .failedTest .1
-      (result-last stm x ys asked _ (failed-is (stm .train) (stm .test .result) (reports stm x ys asked) e))),
+  (
+    λ bit. passed-by bit (course-last stm x ys asked),
+    λ e. tells-last stm x ys asked .passed .1
+        (result-last stm x ys asked _ (passed-is (stm .train) (stm .test .result) (reports stm x ys asked) e)),
+  ),
+  (
+    λ bit. failed-by bit (course-last stm x ys asked),
+    λ e. tells-last stm x ys asked .failedTest .1
+        (result-last stm x ys asked _ (failed-is (stm .train) (stm .test .result) (reports stm x ys asked) e)),
+  ),
 )
   where
     passed-by : bitOf 4 (messagesIn (last stm x ys asked .last .report)) ≡ true → WentOn stm x ys asked
