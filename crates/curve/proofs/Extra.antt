@@ -1,5 +1,5 @@
 -- The extra in the leads.
-use mathlib.Core.Path.{_≡_, refl, sym, ap}
+use mathlib.Core.Path.{sym, ap}
 use Prim.Native.Nat.{ℕ, _+_}
 use native.Mathlib.Nat.{add-zero}
 use Rattle.curve.specs.Lead.{leadsOf}

@@ -1,37 +1,32 @@
 -- What commands 20 to 23, 30 and 31 do, place by place, and the 40 over a list. Assumes nothing.
 use mathlib.Core.Path.{_≡_, refl, sym, _∙_, ap, subst}
 use Prim.Native.Nat.{ℕ}
-use mathlib.Core.Bool.{Bool, true, false, cond, not, _&&_, _||_, or-false, false≢true}
+use mathlib.Core.Bool.{Bool, true, false, cond, _&&_, _||_, or-false}
 use mathlib.Core.Logic.{inl, inr}
 use mathlib.Core.List.{List}
 use lib.Dec.{eqb}
 use lib.ListN.{getD}
-use borrow.Author.Tests.{eqb-true}
 use Rattle.wire.specs.Numbers.{byteAt}
 use Rattle.wire.specs.Form.{operandsOf}
-use Rattle.curve.specs.declared.Curve.{Curve}
 use Rattle.rules.specs.Numbers.{isAccepted, isCode, isState, codeOf, stateOf}
 use Rattle.rules.specs.Operands.{codeByte, readingOf, curveOf, sectionOf}
 use Rattle.rules.specs.Places.{freshTrack, freeCurve, freeSection, holdsCurve, holdsSection, allCurvesHeld, allSectionsHeld, withPast, endingSection, givenCurve, givenSection, endedCurve, endedSection, movedTrack}
-use Rattle.rules.specs.Odometer.{keptOf, notedTrack}
+use Rattle.rules.specs.Odometer.{notedTrack}
 use Rattle.rules.specs.Commands.{freshWith, entered, fortyBy, stopped, carriedOut}
 use Rattle.rules.specs.Refusals.{findsNoPlace}
-use Rattle.rules.specs.Runs.{Sent, answerTo, stateAfter, stateAtEnd, noneAccepted, isOf, ordersCS, freshens}
+use Rattle.rules.specs.Runs.{Sent, answerTo, stateAfter, isOf, freshens}
 use Rattle.rules.specs.History.{firstOperand, passesStop, curveAt, sectionAt}
-use Rattle.rules.specs.Ground.{EndsWith}
 use Rattle.rules.specs.Held.{holdsAt, Given, CurveIsGiven, SectionIsGiven, CurveIsEnded, SectionIsEnded, FortyUntilProceed, NoFortyUntilStop}
 use Rattle.rules.specs.declared.Code.{Code}
 use Rattle.rules.specs.declared.State.{State}
-use Rattle.rules.specs.declared.Section.{Section}
-use Rattle.rules.specs.declared.Track.{Track}
 use Rattle.rules.specs.declared.Reading.{Reading}
 use Rattle.rules.specs.declared.Stm.{Stm}
-use Rattle.rules.proofs.Answers.{after-other, passed}
-use Rattle.rules.proofs.Tests.{impossible, both, neither, either, second-fails, not-both}
-use Rattle.rules.proofs.Told.{code-is, state-is}
+use Rattle.rules.proofs.Answers.{passed}
+use Rattle.rules.proofs.Tests.{impossible, both, neither, either}
+use Rattle.rules.proofs.Told.{code-is}
 use Rattle.rules.proofs.Ordering.{doneBy}
 use Rattle.rules.proofs.Standing.{kept-to-end}
-use Rattle.rules.proofs.AtPlaces.{changed-for, others-stay, given-to}
+use Rattle.rules.proofs.AtPlaces.{changed-for, given-to}
 use Rattle.rules.proofs.After.{track-after, trackIn, reported-track, track-entered}
 
 -- ---- the track after a command of this code

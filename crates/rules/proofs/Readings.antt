@@ -17,14 +17,14 @@ use Rattle.rules.specs.Commands.{entered, stopped, carriedOut}
 use Rattle.rules.specs.Runs.{Sent, answerTo, stateAfter, stateAtEnd, noneAccepted, isOf}
 use Rattle.rules.specs.History.{externalOf, isReport, collected}
 use Rattle.rules.specs.Units.{feedbackAfter}
-use Rattle.rules.specs.Readings.{KeepsFigures, ReportKeepsFigures, FiguresStay, FeedbackOverReports}
+use Rattle.rules.specs.Readings.{ReportKeepsFigures, FiguresStay, FeedbackOverReports}
 use Rattle.rules.specs.Braking.{readingIn}
 use Rattle.rules.specs.declared.Code.{Code}
 use Rattle.rules.specs.declared.State.{State}
 use Rattle.rules.specs.declared.Train.{Train}
 use Rattle.rules.specs.declared.Stm.{Stm}
 use Rattle.rules.proofs.Answers.{after-other, passed}
-use Rattle.rules.proofs.Tests.{impossible, neither}
+use Rattle.rules.proofs.Tests.{impossible}
 use Rattle.rules.proofs.Told.{code-is}
 use Rattle.rules.proofs.Ordering.{doneBy}
 use Rattle.rules.proofs.Standing.{kept-to-end}

@@ -1,5 +1,5 @@
 -- Sections over a list of commands: one that stands stays, and one that ends gains the ground moved. Assumes nothing.
-use mathlib.Core.Path.{_≡_, refl, sym, _∙_, ap, subst}
+use mathlib.Core.Path.{_≡_, refl, sym, _∙_, ap}
 use Prim.Native.Nat.{ℕ, _+_, _*_, _≤_, _<_}
 use native.Mathlib.Omega.{arith}
 use native.Mathlib.Nat.{add-zero}
@@ -13,7 +13,7 @@ use Rattle.wire.specs.Form.{operandsOf}
 use Rattle.rules.specs.Numbers.{isAccepted, isCode, isState, codeOf, stateOf}
 use Rattle.rules.specs.Operands.{codeByte, twoAt, readingOf, sectionOf}
 use Rattle.rules.specs.Places.{anyOf, placed, freeSection, endingSection, givenSection, endedSection, movedSection, movedTrack}
-use Rattle.rules.specs.Odometer.{keptOf, notedTrack}
+use Rattle.rules.specs.Odometer.{notedTrack}
 use Rattle.rules.specs.Commands.{stopped, carriedOut}
 use Rattle.rules.specs.Runs.{Sent, answerTo, stateAfter, stateAtEnd, noneAccepted, isOf, ordersCS, freshens}
 use Rattle.rules.specs.History.{isMoving, movedOf, collected, groundOver, sectionAt}

@@ -1,7 +1,7 @@
 -- Brake test A touches nothing else: two units that differ in it only. Assumes nothing.
-use mathlib.Core.Path.{_≡_, refl, sym, ap, ap₂, _∙_, subst}
+use mathlib.Core.Path.{_≡_, refl, sym, ap, _∙_, subst}
 use Prim.Native.Nat.{ℕ, zero, suc, _%_}
-use mathlib.Core.Bool.{Bool, true, false, cond, not, _&&_, _||_}
+use mathlib.Core.Bool.{Bool, true, false, cond, not, _||_}
 use mathlib.Core.List.{List, [], _∷_}
 use lib.Dec.{eqb}
 use lib.ListN.{length}
@@ -10,18 +10,16 @@ use Rattle.wire.specs.Numbers.{byteAt}
 use Rattle.wire.specs.Form.{formOf, operandsOf}
 use Rattle.rules.specs.Numbers.{isAccepted, isCode, isState, codeOf, stateNumber, stateOf}
 use Rattle.rules.specs.Operands.{codeByte, readingOf}
-use Rattle.rules.specs.BrakeTest.{isRunning, hasPassed, hasFailed, begunTest, leftTest}
+use Rattle.rules.specs.BrakeTest.{isRunning, hasPassed, hasFailed, leftTest}
 use Rattle.rules.specs.Releases.{releasedBrakes}
 use Rattle.rules.specs.Odometer.{withState, withBrakes, withTest, withExtra, withTrain, seenIn, moves, measures, notes, adds, releases, isFresh, supervised, reportedIn}
 use Rattle.rules.specs.Reports.{messagesOf, reportInDA, reportOutside, testOrder, reportFor, reportOf}
 use Rattle.rules.specs.Commands.{freshWith, entered, stopped, carriedOut, withLast, remembered, acceptedOf}
-use Rattle.rules.specs.Refusals.{isRepeat, isNext, endsNothing, findsNoPlace, testsOutside, testsTwice, rulesFor, firstOf, wholeAnswer, answerFor, answerOf}
+use Rattle.rules.specs.Refusals.{isRepeat, isNext, endsNothing, findsNoPlace, testsOutside, testsTwice, rulesFor, firstOf, answerFor, answerOf}
 use Rattle.rules.specs.Calls.{callOf}
-use Rattle.rules.specs.Runs.{Sent, Moment, answerTo, stateAfter, momentOf, moments, stateAtEnd, isOf}
-use Rattle.rules.specs.History.{stateIn, orderIn, messagesIn, isIn}
-use Rattle.rules.specs.TwoRuns.{Both}
-use Rattle.rules.specs.TestRuns.{LikeButTest, ReportsLike, AskingTouchesNothing, TestTouchesNothing, MomentsLike, TestLeavesNothing}
-use Rattle.rules.specs.declared.Answer.{Answer}
+use Rattle.rules.specs.Runs.{Sent, answerTo, stateAfter, momentOf, moments, stateAtEnd, isOf}
+use Rattle.rules.specs.History.{isIn}
+use Rattle.rules.specs.TestRuns.{LikeButTest, ReportsLike, AskingTouchesNothing, TestTouchesNothing, TestLeavesNothing}
 use Rattle.rules.specs.declared.Code.{Code}
 use Rattle.rules.specs.declared.State.{State}
 use Rattle.pressure.specs.declared.Measured.{Measured}
@@ -36,11 +34,11 @@ use Rattle.rules.specs.declared.Reading.{Reading}
 use Rattle.rules.specs.declared.Stm.{Stm}
 use Rattle.rules.proofs.Answers.{after-accepted, after-other}
 use Rattle.rules.proofs.Tests.{impossible, or-left, or-right, neither, all-head, all-tail}
-use Rattle.rules.proofs.Told.{code-is, state-is}
+use Rattle.rules.proofs.Told.{code-is}
 use Rattle.rules.proofs.Ordering.{doneBy}
 use Rattle.rules.proofs.Bits.{six-bits}
 use Rattle.rules.proofs.Written.{written-is, inDA, da-fields}
-use Rattle.rules.proofs.After.{control-after, test-after, extraIn, extraBy}
+use Rattle.rules.proofs.After.{control-after, extraIn, extraBy}
 use Rattle.rules.proofs.TestRuns.{extra-after-by, zero-after}
 
 -- ---- a unit with another test, another last command and another extra

@@ -2,11 +2,10 @@
 use mathlib.Core.Path.{_≡_, refl, sym, ap, _∙_, subst}
 use Prim.Native.Nat.{ℕ, suc, _+_, _≤_, _<_}
 use native.Mathlib.Omega.{arith}
-use mathlib.Core.Bool.{Bool, true, false, cond, not, _&&_, _||_}
-use mathlib.Core.Logic.{_⊎_, inl, inr}
+use mathlib.Core.Bool.{Bool, true, false, cond, not, _&&_}
+use mathlib.Core.Logic.{inl, inr}
 use mathlib.Core.List.{List, [], _∷_, _++_, map, append-nil, append-assoc}
-use lib.Dec.{leb, ltb}
-use lib.IntN.{ℤ}
+use lib.Dec.{leb}
 use lib.Ieee.{Float}
 use lib.ListN.{length, length-append}
 use borrow.Author.Tests.{leb-true, leb-false, lt-leb, le-leb}
@@ -19,7 +18,7 @@ use Rattle.rules.specs.Places.{anyOf, allOf}
 use Rattle.rules.specs.BrakeTest.{endedTest, isRunning, phaseOn, stageOf, brakedOn}
 use Rattle.rules.specs.History.{externalOf}
 use Rattle.rules.specs.Units.{feedbackAfter}
-use Rattle.rules.specs.TestRuns.{isFit, dropsFrom, phaseBy, Settles, SettledBy, Brakes, Passes, Lasts, Runs, Fails, EndedBy}
+use Rattle.rules.specs.TestRuns.{isFit, dropsFrom, phaseBy, SettlesStill, SettledBy, BrakesStill, Passes, RunsStill, Fails, EndedBy}
 use Rattle.rules.specs.declared.Train.{Train}
 use Rattle.rules.specs.declared.Stage.{Stage}
 use Rattle.rules.specs.declared.Verdict.{Verdict}
@@ -156,17 +155,17 @@ module _ (train : Train) (result : Verdict) where
       → byReport train report (settlingAt phase) ≡ record { stage = stageOf (phaseOn train (externalOf report) phase); result = result }
   fit-settling phase report e = rw e
 
-  pub settles-is : (reports : List (List ℕ)) → Settles train reports → byReports train reports begun ≡ settlingAt (phaseBy train reports)
+  pub settles-is : (reports : List (List ℕ)) → SettlesStill train reports → byReports train reports begun ≡ settlingAt (phaseBy train reports)
   unfolding byReports afterAll freshFeedback
   settles-is =
-      from-front (λ reports. Settles train reports → byReports train reports begun ≡ settlingAt (phaseBy train reports)) first next
+      from-front (λ reports. SettlesStill train reports → byReports train reports begun ≡ settlingAt (phaseBy train reports)) first next
     where
-      first : Settles train [] → byReports train [] begun ≡ settlingAt (phaseBy train [])
+      first : SettlesStill train [] → byReports train [] begun ≡ settlingAt (phaseBy train [])
       first s = refl
 
       next : (reports : List (List ℕ)) (report : List ℕ)
-          → (Settles train reports → byReports train reports begun ≡ settlingAt (phaseBy train reports))
-          → Settles train (then reports report)
+          → (SettlesStill train reports → byReports train reports begun ≡ settlingAt (phaseBy train reports))
+          → SettlesStill train (then reports report)
           → byReports train (then reports report) begun ≡ settlingAt (phaseBy train (then reports report))
       next reports report before s =
           let fit = all-then isFit reports report (s .fit) in
@@ -211,7 +210,7 @@ module _ (train : Train) (result : Verdict) where
       ∙ counted steady (count + 1) further (and-right (isFit report) (allOf isFit further) fit) (t .1) rest
       ∙ ap (brakingAt steady) same
 
-  pub brakes-is : (reports : List (List ℕ)) (b : Brakes train reports)
+  pub brakes-is : (reports : List (List ℕ)) (b : BrakesStill train reports)
       → byReports train reports begun ≡ brakingAt (b .steady) (length (b .further))
   brakes-is reports b =
       let fit = all-and isFit (b .settling) (b .further) (subst (λ xs. allOf isFit xs ≡ true) (b .whole) (b .fit)) in
@@ -246,7 +245,7 @@ module _ (train : Train) (result : Verdict) where
       ∙ ap (byReport train next) (brakes-is reports (p .brakes))
       ∙ pass-next (p .brakes .steady) (length (p .brakes .further)) next (p .fit) (p .drop)
 
-  runs-is : (reports : List (List ℕ)) → Runs train reports → isRunning (byReports train reports begun .stage) ≡ true
+  runs-is : (reports : List (List ℕ)) → RunsStill train reports → isRunning (byReports train reports begun .stage) ≡ true
   runs-is reports (inl s) = ap (λ test. isRunning (test .stage)) (settles-is reports s)
   runs-is reports (inr b) = ap (λ test. isRunning (test .stage)) (brakes-is reports b)
 
@@ -278,8 +277,8 @@ module _ (train : Train) (result : Verdict) where
   -- ---- one of the four holds of every list
 
   pub data Course (reports : List (List ℕ)) (test : BrakeTest) : Type 0 where
-    settles : Settles train reports → test ≡ settlingAt (phaseBy train reports) → Course reports test
-    brakes : (b : Brakes train reports) → test ≡ brakingAt (b .steady) (length (b .further)) → Course reports test
+    settles : SettlesStill train reports → test ≡ settlingAt (phaseBy train reports) → Course reports test
+    brakes : (b : BrakesStill train reports) → test ≡ brakingAt (b .steady) (length (b .further)) → Course reports test
     passed : EndedBy (Passes train) reports → test ≡ endedTest Verdict.Passed → Course reports test
     failed : EndedBy (Fails train) reports → test ≡ endedTest Verdict.Failed → Course reports test
 
@@ -298,7 +297,7 @@ module _ (train : Train) (result : Verdict) where
   }
 
   module _ (limit : 1 ≤ train .times .brake) where
-    settle-next : (reports : List (List ℕ)) (next : List ℕ) → Settles train reports → isFit next ≡ true
+    settle-next : (reports : List (List ℕ)) (next : List ℕ) → SettlesStill train reports → isFit next ≡ true
         → (phase : Phase) → phaseBy train (then reports next) ≡ phase → Course (then reports next) (record { stage = stageOf phase; result = result })
     settle-next reports next s fit Phase.Waiting is =
         settles (record { fit = all-join isFit reports next (s .fit) fit; unset = ap isSet is }) (ap settlingAt (sym is))
@@ -324,7 +323,7 @@ module _ (train : Train) (result : Verdict) where
           few = limit;
         }) refl
 
-    settles-then : (reports : List (List ℕ)) (next : List ℕ) → Settles train reports → (fit : Bool) → isFit next ≡ fit
+    settles-then : (reports : List (List ℕ)) (next : List ℕ) → SettlesStill train reports → (fit : Bool) → isFit next ≡ fit
         → Course (then reports next) (byReport train next (settlingAt (phaseBy train reports)))
     settles-then reports next s true e =
         subst (Course (then reports next))
@@ -334,9 +333,9 @@ module _ (train : Train) (result : Verdict) where
     settles-then reports next s false e =
         failed (ends-now (Fails train) reports next (inl (inl s, e))) (unfit-next (settlingAt (phaseBy train reports)) next refl e)
 
-    brakes-on : (reports : List (List ℕ)) (next : List ℕ) (b : Brakes train reports) → isFit next ≡ true
+    brakes-on : (reports : List (List ℕ)) (next : List ℕ) (b : BrakesStill train reports) → isFit next ≡ true
         → dropsFrom train (b .steady) next ≡ false → length (b .further) + 1 < train .times .brake
-        → Brakes train (then reports next)
+        → BrakesStill train (then reports next)
     brakes-on reports next b fit none few = record {
       settling = b .settling;
       further = then (b .further) next;
@@ -348,7 +347,7 @@ module _ (train : Train) (result : Verdict) where
       few = subst (λ n. n < train .times .brake) (sym (length-then (b .further) next)) few;
     }
 
-    brakes-then : (reports : List (List ℕ)) (next : List ℕ) (b : Brakes train reports) (fit drop late : Bool) → isFit next ≡ fit
+    brakes-then : (reports : List (List ℕ)) (next : List ℕ) (b : BrakesStill train reports) (fit drop late : Bool) → isFit next ≡ fit
         → dropsFrom train (b .steady) next ≡ drop → leb (train .times .brake) (length (b .further) + 1) ≡ late
         → Course (then reports next) (byReport train next (brakingAt (b .steady) (length (b .further))))
     unfolding brakes-on

@@ -8,7 +8,6 @@ use lib.IntN.{ℤ}
 use lib.Ieee.{Float}
 use borrow.Author.Tests.{leb-false, lt-ltb}
 use Rattle.pressure.specs.declared.Phase.{Phase}
-use Rattle.pressure.specs.declared.Pressures.{Pressures}
 use Rattle.pressure.specs.declared.Measured.{Measured}
 use Rattle.pressure.specs.Phases.{isSet, isNormal, waitedOf, isFar, settledOf, nextOf}
 use Rattle.pressure.specs.Report.{freshFeedback, pressureAt, phaseAfter, reported}

@@ -4,33 +4,29 @@ use Prim.Native.Nat.{ℕ, zero, suc, _+_}
 use native.Mathlib.Nat.{suc-ne-zero}
 use native.Mathlib.Omega.{arith}
 use mathlib.Core.Bool.{Bool, true, false, cond, not, _&&_, _||_}
-use mathlib.Core.Logic.{_⊎_, inl, inr}
+use mathlib.Core.Logic.{inl, inr}
 use mathlib.Core.List.{List, [], _∷_}
 use lib.Dec.{eqb, ltb}
-use lib.IntN.{ℤ}
 use lib.Ieee.{Float}
-use lib.ListN.{length}
 use borrow.Author.Tests.{lt-ltb, ne-eqb, not-false, not-true, eqb-true}
 use Rattle.wire.specs.Form.{operandsOf}
-use Rattle.pressure.specs.declared.Phase.{Phase}
 use Rattle.pressure.specs.declared.Measured.{Measured}
 use Rattle.pressure.specs.Convert.{halvedOf, isLow, isHigh, sensorFault, pressureOf}
 use Rattle.pressure.specs.Reference.{dropOf}
 use Rattle.pressure.specs.Report.{pressureAt, reported, reportedTo}
 use Rattle.curve.proofs.Extra.{leads-without-extra}
-use Rattle.rules.specs.Numbers.{isAccepted, isCode, isState, codeOf, stateOf}
+use Rattle.rules.specs.Numbers.{isAccepted, isCode, isState, codeOf}
 use Rattle.rules.specs.Operands.{codeByte, bitOf, extraOf, trainOf, readingOf}
-use Rattle.rules.specs.BrakeTest.{isRunning, hasPassed, hasFailed, begunTest, endedTest, leftTest, isUnfit, phaseOn, hasDropped, goneOn, testedAt, extraLeft}
+use Rattle.rules.specs.BrakeTest.{isRunning, hasPassed, hasFailed, begunTest, leftTest, isUnfit, phaseOn, hasDropped, testedAt, extraLeft}
 use Rattle.rules.specs.Odometer.{withExtra}
 use Rattle.rules.specs.Reports.{reportOutside, reportFor, reportOf}
-use Rattle.rules.specs.Commands.{carriedOut}
 use Rattle.rules.specs.Refusals.{testsOutside}
-use Rattle.rules.specs.Runs.{Sent, answerTo, stateAfter, momentOf, stateAtEnd, noneAccepted, isOf}
-use Rattle.rules.specs.History.{Tells, firstOperand, speedOf, externalOf, orderIn, messagesIn, isIn, isReport, isSupervised, collected, standsThrough}
+use Rattle.rules.specs.Runs.{Sent, answerTo, stateAfter, stateAtEnd, noneAccepted, isOf}
+use Rattle.rules.specs.History.{firstOperand, speedOf, externalOf, orderIn, messagesIn, isIn, isReport, collected, standsThrough}
 use Rattle.rules.specs.Braking.{readingIn}
 use Rattle.rules.specs.Written.{orderInTest, runsIn, MessagesTell}
-use Rattle.rules.specs.Units.{IsUnit, isExtraSound, StageSound}
-use Rattle.rules.specs.TestRuns.{endsTest, Asked, reportsOf, isFit, dropsFrom, Brakes, Passes, Runs, Fails, EndedBy, TestOrders, TestRuns, TestEnds, ResultStands}
+use Rattle.rules.specs.Units.{isExtraSound, StageSound}
+use Rattle.rules.specs.TestRuns.{endsTest, Asked, reportsOf, isFit, dropsFrom, BrakesStill, Passes, RunsStill, Fails, EndedBy, TestOrdersFull, RunningIsTold, ResultIsTold, ResultStands}
 use Rattle.rules.specs.TestRuns.{NoTestUnasked, LeavingFailsTest, NoTestOutsideDE, ExtraByFlag, NoFlagNoExtra, ExtraUntilPassed, PassedHasNoExtra, NoExtraStays}
 use Rattle.rules.specs.declared.Code.{Code}
 use Rattle.rules.specs.declared.State.{State}
@@ -43,7 +39,6 @@ use Rattle.rules.specs.declared.Stm.{Stm}
 use Rattle.rules.proofs.Answers.{after-other, passed}
 use Rattle.rules.proofs.Tests.{impossible, and-left, and-right, neither}
 use Rattle.rules.proofs.Told.{code-is, state-is}
-use Rattle.rules.proofs.Ordering.{doneBy}
 use Rattle.rules.proofs.Standing.{kept-to-end}
 use Rattle.rules.proofs.After.{train-after, test-after, testIn, testBy, test-by, extraIn, extraBy, extra-by}
 use Rattle.rules.proofs.Ground.{spared-first}
@@ -52,7 +47,7 @@ use Rattle.rules.proofs.Fresh.{state-stays}
 use Rattle.rules.proofs.Written.{written-is, report-kept, report-at-end, messages-tell}
 use Rattle.rules.proofs.Keeps.{call-keeps-unit, run-keeps-unit}
 use Rattle.rules.proofs.TestParts.{none-tested}
-use Rattle.rules.proofs.TestCourse.{goneBy, byReport, byReports, settles-is, brakes-is, passed-is, failed-is, Course, settles, brakes, failed, course}
+use Rattle.rules.proofs.TestCourse.{byReport, byReports, settles-is, brakes-is, passed-is, failed-is, Course, settles, brakes, failed, course}
 
 -- ---- a report, by its bytes
 
@@ -291,13 +286,13 @@ WentOn stm x ys asked =
     Course (stm .train) (stm .test .result) (reports stm x ys asked)
     (byReports (stm .train) (reports stm x ys asked) (begunTest (stm .test)))
 
-pub test-orders : TestOrders
-test-orders stm x ys asked = (
+pub test-orders-full : TestOrdersFull
+test-orders-full stm x ys asked = (
   λ b. order-last stm x ys asked _ (brakes-is (stm .train) (stm .test .result) (reports stm x ys asked) b),
   λ none. go none (course-last stm x ys asked),
 )
   where
-    go : (Brakes (stm .train) (reports stm x ys asked) → ⊥)
+    go : (BrakesStill (stm .train) (reports stm x ys asked) → ⊥)
         → WentOn stm x ys asked
         → orderIn (last stm x ys asked .last .report) ≡ 0
     go none (settles s is) = order-last stm x ys asked _ is
@@ -305,23 +300,23 @@ test-orders stm x ys asked = (
     go none (Course.passed e is) = order-last stm x ys asked _ is
     go none (failed e is) = order-last stm x ys asked _ is
 
-pub test-runs : TestRuns
-test-runs stm x ys asked = (λ bit. go bit (course-last stm x ys asked), back)
+pub running-is-told : RunningIsTold
+running-is-told stm x ys asked = (λ bit. go bit (course-last stm x ys asked), back)
   where
     go : bitOf 3 (messagesIn (last stm x ys asked .last .report)) ≡ true
         → WentOn stm x ys asked
-        → Runs (stm .train) (reports stm x ys asked)
+        → RunsStill (stm .train) (reports stm x ys asked)
     go bit (settles s is) = inl s
     go bit (brakes b is) = inr b
     go bit (Course.passed e is) = impossible (sym (runs-last stm x ys asked _ is) ∙ bit)
     go bit (failed e is) = impossible (sym (runs-last stm x ys asked _ is) ∙ bit)
 
-    back : Runs (stm .train) (reports stm x ys asked) → bitOf 3 (messagesIn (last stm x ys asked .last .report)) ≡ true
+    back : RunsStill (stm .train) (reports stm x ys asked) → bitOf 3 (messagesIn (last stm x ys asked .last .report)) ≡ true
     back (inl s) = runs-last stm x ys asked _ (settles-is (stm .train) (stm .test .result) (reports stm x ys asked) s)
     back (inr b) = runs-last stm x ys asked _ (brakes-is (stm .train) (stm .test .result) (reports stm x ys asked) b)
 
-pub test-ends : TestEnds
-test-ends stm x ys asked over = (
+pub result-is-told : ResultIsTold
+result-is-told stm x ys asked over = (
   (
     λ bit. passed-by bit (course-last stm x ys asked),
     λ e. tells-last stm x ys asked .passed .1

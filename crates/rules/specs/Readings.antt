@@ -1,11 +1,9 @@
 -- What an odometer report leaves: its figures and buttons, and the feedback; and what nothing else touches. Proved in proofs/.
 use mathlib.Core.Path.{_≡_}
 use Prim.Native.Nat.{ℕ}
-use mathlib.Core.Bool.{Bool, true, false, _||_}
+use mathlib.Core.Bool.{true, _||_}
 use mathlib.Core.List.{List}
-use Rattle.wire.specs.Form.{operandsOf}
 use Rattle.rules.specs.Numbers.{isAccepted}
-use Rattle.rules.specs.Operands.{trainOf}
 use Rattle.rules.specs.Odometer.{withExtra}
 use Rattle.rules.specs.Runs.{Sent, answerTo, stateAfter, stateAtEnd, noneAccepted, isOf}
 use Rattle.rules.specs.History.{speedOf, externalOf, buttonOf, isReport, collected}

@@ -65,7 +65,7 @@ dropsFrom train steady command = le (kPa 60) (sub binary32 steady (pressureFor t
 -- ---- what reports since the command make of the test
 
 -- P_INT has not settled, and no report has failed it
-pub record Settles (train : Train) (reports : List (List ℕ)) : Type 0 where
+pub record SettlesStill (train : Train) (reports : List (List ℕ)) : Type 0 where
   pub fit : allOf isFit reports ≡ true
   pub unset : isSet (phaseBy train reports) ≡ false
 
@@ -78,7 +78,7 @@ pub record SettledBy (train : Train) (reports : List (List ℕ)) (steady : Float
   pub set : phaseBy train reports ≡ Phase.Set steady 0
 
 -- P_INT has settled, and of the further reports, fewer than T_B, none has the drop: the last has the count that is their number
-pub record Brakes (train : Train) (reports : List (List ℕ)) : Type 0 where
+pub record BrakesStill (train : Train) (reports : List (List ℕ)) : Type 0 where
   pub settling : List (List ℕ)
   pub further : List (List ℕ)
   pub steady : Float
@@ -90,24 +90,26 @@ pub record Brakes (train : Train) (reports : List (List ℕ)) : Type 0 where
 
 -- "At the first such drop the test passes": the next report has it, of a count from 1 to T_B
 pub record Passes (train : Train) (reports : List (List ℕ)) (next : List ℕ) : Type 0 where
-  pub brakes : Brakes train reports
+  pub brakes : BrakesStill train reports
   pub fit : isFit next ≡ true
   pub drop : dropsFrom train (brakes .steady) next ≡ true
 
--- the next report fails a test that runs: by P_EXT or by its speed, or it has the count T_B and no drop
-pub record Lasts (train : Train) (reports : List (List ℕ)) (next : List ℕ) : Type 0 where
-  pub brakes : Brakes train reports
+-- the next report has the count T_B, and no drop
+pub record RunsOut (train : Train) (reports : List (List ℕ)) (next : List ℕ) : Type 0 where
+  pub brakes : BrakesStill train reports
   pub fit : isFit next ≡ true
   pub none : dropsFrom train (brakes .steady) next ≡ false
   pub count : length (brakes .further) + 1 ≡ train .times .brake
 
-abbrev pub Runs : Train → List (List ℕ) → Type 0
-Runs train reports = Settles train reports ⊎ Brakes train reports
+-- it has not ended by these reports
+abbrev pub RunsStill : Train → List (List ℕ) → Type 0
+RunsStill train reports = SettlesStill train reports ⊎ BrakesStill train reports
 
+-- the next report fails it: by P_EXT or by its speed, or by that
 abbrev pub Fails : Train → List (List ℕ) → List ℕ → Type 0
-Fails train reports next = (Runs train reports × (isFit next ≡ false)) ⊎ Lasts train reports next
+Fails train reports next = (RunsStill train reports × (isFit next ≡ false)) ⊎ RunsOut train reports next
 
--- one of the reports ends the test so; those before it have not
+-- one of the reports ends the test so, and those before it have not ended it
 pub record EndedBy (Ends : List (List ℕ) → List ℕ → Type 0) (reports : List (List ℕ)) : Type 0 where
   pub before : List (List ℕ)
   pub ending : List ℕ
@@ -118,26 +120,26 @@ pub record EndedBy (Ends : List (List ℕ) → List ℕ → Type 0) (reports : L
 -- ---- what is written
 
 -- order 2 is written from the report that settles it to the one before that which ends it, and at no other; else it is 0
-abbrev pub TestOrders : Type 0
-TestOrders =
+abbrev pub TestOrdersFull : Type 0
+TestOrdersFull =
     (stm : Stm) (x : Sent) (ys : List Sent)
     → Asked stm x ys
     → let last = stateAtEnd (stateAfter stm x) ys in
-    let brakes = Brakes (stm .train) (reportsOf (stateAfter stm x) ys) in
+    let brakes = BrakesStill (stm .train) (reportsOf (stateAfter stm x) ys) in
     (brakes → orderIn (last .last .report) ≡ 2) × ((brakes → ⊥) → orderIn (last .last .report) ≡ 0)
 
 -- "bit 3 running"
-abbrev pub TestRuns : Type 0
-TestRuns =
+abbrev pub RunningIsTold : Type 0
+RunningIsTold =
     (stm : Stm) (x : Sent) (ys : List Sent)
     → Asked stm x ys
     → let last = stateAtEnd (stateAfter stm x) ys in
-    Tells (bitOf 3 (messagesIn (last .last .report))) (Runs (stm .train) (reportsOf (stateAfter stm x) ys))
+    Tells (bitOf 3 (messagesIn (last .last .report))) (RunsStill (stm .train) (reportsOf (stateAfter stm x) ys))
 
 -- once it has ended, "bit 4 last test passed": exactly if a report of count 1 to T_B has the drop and none before it has ended the test;
 -- and "bit 5 last test failed" likewise
-abbrev pub TestEnds : Type 0
-TestEnds =
+abbrev pub ResultIsTold : Type 0
+ResultIsTold =
     (stm : Stm) (x : Sent) (ys : List Sent)
     → Asked stm x ys
     → let messages = messagesIn (stateAtEnd (stateAfter stm x) ys .last .report) in
