@@ -741,32 +741,36 @@ class Trips:
     # -- things that happen in DE
 
     def brake_tests(self):
-        """Brake tests, one after the other; the last may be left unfinished."""
+        """Brake tests, one after the other, with a reference or without; the last may be left unfinished."""
+        if self.chance(0.3):
+            self.settle()
         for _ in range(self.pick(0, 1, 1, 2)):
-            if self.unit.state == DE and self.unit.test is None:
+            if self.unit.test is None:
                 self.brake_test()
         self.v = 0
 
     def brake_test(self):
+        """A brake test that ends in one of the ways there are, or is left open."""
         unit = self.unit
-        end = self.deal("test", ("at once", "later", "later", "at T_B", "at T_B", "never", "never", "speed", "sensor", "open",
-                                 "settling: speed", "settling: sensor", "settling: open", "settling: start"))
-        self.odometer(v=self.pick(0, 0, 40))
+        end = self.deal("test", ("at once", "later", "later", "at T_B", "at T_B", "never", "never", "speed", "sensor", "start", "open",
+                                 "early speed", "early sensor", "early start", "early open"))
+        if self.chance(0.6):
+            self.odometer(v=self.pick(0, 40), half=self.pick(None, None, 1911))
         self.send(TEST_BRAKES)
         if self.chance(0.3):
             self.emit(TEST_BRAKES, unit.number + self.pick(0, 1))
-        self.settle_test(self.between(0, 29) if end.startswith("settling") else None)
-        if end.endswith("speed"):
-            self.odometer(v=self.pick(1, 1, 40, 10000))
+        self.settle_test(self.between(0, 30) if end.startswith("early") else None)
+        if end in ("at once", "later", "at T_B", "never"):
+            t_b = unit.train["t_b"]
+            self.brake_for_test({"at once": 1, "later": self.between(1, t_b), "at T_B": t_b, "never": None}[end])
+        elif end.endswith("speed"):
+            self.odometer(v=self.pick(1, 1, 40, 10000), half=self.half_for(self.test_pressure() - self.pick(0, 60)))
         elif end.endswith("sensor"):
             self.odometer(v=0, half=self.pick(-101, 1911, -32768, 32767))
         elif end.endswith("start"):
             self.start()
-        elif unit.test is not None and not end.endswith("open"):
-            self.brake_for_test(end)
-        elif unit.test is not None:
-            for _ in range(self.between(0, unit.train["t_b"] - 1)):
-                self.odometer(v=0, half=self.half_for(self.test_pressure() - self.pick(0, 59, 59.5)))
+        elif self.chance(0.2):
+            self.state(FA)
 
     def test_pressure(self):
         """The pressure that the test saved, or one that it can save."""
@@ -774,9 +778,11 @@ class Trips:
 
     def settle_test(self, most):
         """Reports until the test's pressure is settled, with or without a setback, or so many at most."""
-        unit = self.unit
-        cylinder = unit.train["flags"] & 2
-        self.rest = float(self.pick(400, 450.5, 500, self.between(400, 500)))
+        unit, train = self.unit, self.unit.train
+        cylinder = train["flags"] & 2
+        self.rest = float(self.pick(400, 450.5, 500, 550, self.between(400, 550)))
+        if cylinder:
+            self.rest = 500 - 75 * self.between(0, train["p_full"]) / train["p_full"]
         setback = self.between(3, 29) if self.chance(0.35) else None
         reports = 0
         while unit.test is not None and unit.test[0] != "set" and reports != most:
@@ -789,14 +795,16 @@ class Trips:
             self.odometer(v=0, moved=self.pick(0, 0, 0, 7), half=self.half_for(self.test_pressure() - drop))
             reports += 1
 
-    def brake_for_test(self, end):
-        """The reports from the settling one on: a drop of 60 kPa at once, later, at T_B or never."""
-        unit, t_b = self.unit, self.unit.train["t_b"]
-        at = {"at once": 1, "later": self.between(1, t_b), "at T_B": t_b, "never": None}[end]
+    def brake_for_test(self, at):
+        """The reports after the one that settles it, with a drop of 60 kPa at the one of this count, or never."""
+        unit = self.unit
         while unit.test is not None:
             enough = unit.test[2] + 1 == at
             drop = self.pick(60, 60, 60.5, 75, 150) if enough else self.pick(0, 30, 59, 59.5)
-            self.odometer(v=0, moved=self.pick(0, 0, 0, 7), half=self.half_for(self.test_pressure() - drop))
+            half = self.half_for(self.test_pressure() - drop)
+            if self.chance(0.05):
+                half = self.pick(-100, 1910)
+            self.odometer(v=0, moved=self.pick(0, 0, 0, 7), half=half, press=self.pick(0, 0, 0, LOSS, TEXT))
 
     # -- things that happen in DA
 
