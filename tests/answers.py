@@ -12,6 +12,13 @@ DE = "0000000000000000FF0000000000FFFFFFFF"
 CS = "0100000000000000FF0000000000FFFFFFFF"
 HS = "0200000000000000FF0000000000FFFFFFFF"
 FA = "0403000000000000FF0000000000FFFFFFFF"
+# With a brake test: settling, braking, passed, another after it; failed, in CS and in FA.
+SETTLING = "0000000000000000FF0000000800FFFFFFFF"
+BRAKING = "0002000000000000FF0000000800FFFFFFFF"
+PASSED = "0000000000000000FF0000001000FFFFFFFF"
+ANOTHER = "0000000000000000FF0000001800FFFFFFFF"
+FAILED_IN_CS = "0100000000000000FF0000002000FFFFFFFF"
+FAILED_IN_FA = "0403000000000000FF0000002000FFFFFFFF"
 TO_FA = "020000000204"
 
 CASES = [
@@ -80,6 +87,27 @@ CASES = [
     # In FA 8 comes before 13.
     (18, "020000002904", 0, FA, True),
     (18, "200000002A1F0001F4002800", 8, None, True),
+    # A brake test: taken once, again, and 15 while it runs. At 500 kPa it settles at the 31st report, and 440 pass it.
+    (18, START, 0, DE, True),
+    (18, "400000000200", 4, None, False),
+    (18, "4000000002", 0, SETTLING, True),
+    (18, "4000000002", 100, SETTLING, True),
+    (17, "4000000003", 1, None, False),
+    (18, "4000000003", 15, None, True),
+    *[(18, f"10000000{n:02X}00000000000003E800", 0, SETTLING, True) for n in range(3, 33)],
+    (18, "100000002100000000000003E800", 0, BRAKING, True),
+    (18, "4000000022", 15, None, True),
+    (18, "100000002100000000000003E800", 100, BRAKING, True),
+    (18, "1000000022000000000000037000", 0, PASSED, True),
+    # Another, which CS ends; outside DE it is 14, in FA 8.
+    (18, "4000000023", 0, ANOTHER, True),
+    (18, "020000002401", 0, FAILED_IN_CS, True),
+    (18, "4000000025", 14, None, True),
+    (18, "020000002504", 0, FAILED_IN_FA, True),
+    (18, "4000000026", 8, None, True),
+    # Flag bit 2 is taken, bit 3 is not; a start forgets the test.
+    (18, "0100000001" + "08" + START[12:], 9, None, True),
+    (18, "0100000001" + "04" + START[12:], 0, DE, True),
 ]
 
 for area, command, answer, report, passes in CASES:

@@ -10,23 +10,25 @@ import os
 import struct
 import sys
 from collections import Counter, namedtuple
+from fractions import Fraction
 
 sys.dont_write_bytecode = True
 sys.path.insert(0, os.path.dirname(os.path.abspath(__file__)))
 import curve as curves
+import pressure as pressures
 from trips import Picture, at, upto
 
 LAST = 0xFFFFFFFF
 DE, CS, HS, DA, FA = range(5)
 STATES = ["DE", "CS", "HS", "DA", "FA"]
 LOSS, TEXT, HALKA, NEUTRAL = 1, 2, 4, 8
-LENGTHS = {0x01: 24, 0x02: 6, 0x10: 14, 0x20: 12, 0x21: 6, 0x22: 8, 0x23: 6, 0x30: 6, 0x31: 5, 0x32: 5}
+LENGTHS = {0x01: 24, 0x02: 6, 0x10: 14, 0x20: 12, 0x21: 6, 0x22: 8, 0x23: 6, 0x30: 6, 0x31: 5, 0x32: 5, 0x40: 5}
 
 # An operand of a code: where it stands among the operands, its form, values in range at its limits, values out of
 # range next to them, and for the speed of a curve the kind that it belongs to.
 Operand = namedtuple("Operand", "code name at form good bad kind", defaults=[None])
 OPERANDS = [
-    Operand(0x01, "flags", 0, "B", (0, 1, 2, 3), (4, 8, 16, 32, 64, 128)),
+    Operand(0x01, "flags", 0, "B", tuple(range(8)), (8, 16, 32, 64, 128)),
     Operand(0x01, "train speed", 1, "H", (10, 300), (9, 301)),
     Operand(0x01, "length", 3, "H", (10, 1000), (9, 1001)),
     Operand(0x01, "full deceleration", 5, "H", (400, 2000), (399, 2001)),
@@ -62,14 +64,15 @@ OPERANDS = [
 # What each code is answered in DE, CS, HS, DA and FA, all else being in order.
 CODES = {0x01: (0, 0, 0, 0, 0), 0x10: (0, 0, 0, 0, 8), 0x20: (10, 10, 0, 0, 8), 0x21: (10, 10, 0, 0, 8),
          0x22: (10, 10, 0, 0, 8), 0x23: (10, 10, 0, 0, 8), 0x30: (10, 10, 10, 0, 8), 0x31: (10, 10, 0, 0, 8),
-         0x32: (10, 10, 10, 0, 8)}
+         0x32: (10, 10, 10, 0, 8), 0x40: (0, 14, 14, 14, 8)}
 # What command 02 is answered, from each state to DE, CS, HS, DA and FA, where there is a reference pressure.
 PATHS = ((10, 0, 10, 0, 0), (10, 10, 0, 10, 0), (10, 0, 10, 0, 0), (10, 0, 10, 10, 0), (8, 8, 8, 8, 8))
 
 # Two refusals that one command can meet. 9 and 11 cannot (an order of DA is in range), nor 10 and 13 (where 20 and 22
-# are not allowed nothing is held), and 11, 12 and 13 are of different codes.
-PAIRS = [(5, 6), (5, 9)] + [(6, n) for n in range(7, 14)] + [(7, n) for n in range(8, 14)] + [
-    (8, n) for n in range(9, 14)] + [(9, 10), (9, 12), (9, 13), (10, 11), (10, 12)]
+# are not allowed nothing is held), and 11, 12 and 13 are of different codes. 14 and 15 are of a code that has no operands
+# and is never 10, and a test runs in DE alone.
+PAIRS = [(5, 6), (5, 9)] + [(6, n) for n in range(7, 16)] + [(7, n) for n in range(8, 16)] + [
+    (8, n) for n in range(9, 15)] + [(9, 10), (9, 12), (9, 13), (10, 11), (10, 12)]
 
 # The causes' strengths: soft, full, emergency.
 STRENGTHS = "SEFSEEEFFSSE"
@@ -90,8 +93,8 @@ def claims():
     yield "States", [f"{code:02X} in {name}: {answer}" for code, row in CODES.items() for name, answer in zip(STATES, row)]
     yield "Paths", [f"{STATES[a]} to {STATES[b]}: {PATHS[a][b]}" for a in range(5) for b in range(5)] + [
         "DE to DA: 11", "HS to DA: 11", "CS to DA: 10 without a reference"]
-    yield "Answers", [f"answer {n}" for n in (0, *range(4, 14), 100)] + [f"{code:02X} again" for code in LENGTHS] + [
-        "again in FA", "again after a refusal", "again where 10 would refuse", "again where 12 would refuse",
+    yield "Answers", [f"answer {n}" for n in (0, *range(4, 16), 100)] + [f"{code:02X} again" for code in LENGTHS] + [
+        "again in FA", "again after a refusal", *(f"again where {n} would refuse" for n in (10, 12, 15)),
         "again, with ground under a curve", "same number, other bytes: 7",
         "FFFFFFFF accepted", "after FFFFFFFF: 6", "after FFFFFFFF: 7", "after FFFFFFFF: 100", "after FFFFFFFF: a start",
         "a refused number accepted", "12 of a curve", "12 of a section", "12 of an ending section", "13 of a curve",
@@ -159,14 +162,80 @@ def claims():
         "a second error begins no check", "a repeat in between", "a refused report in between", "an error again, and refused",
         "bit 0 dropped while bit 9 is held", "bit 11 not dropped while bit 9 is held", "bits 9 and 11 dropped together at the 20th",
         "FA at a fresh LOSS that would drop bit 9", "CS while bit 9 is held", "a start while bit 9 is held"]
+    yield "F-3", [
+        "asked before any report", "asked with a speed standing", "asked with TRYCKGIVARFEL standing", "asked with a reference",
+        "asked with flag bit 2", "asked without flag bit 2", "asked after one that passed", "asked after one that failed",
+        "the 30th report: no order yet", "the 31st report: order 2", "the 31st report: order 2, with a reference from before",
+        "a repeat in between counts nothing", "a refused report in between counts nothing", "order 2 again",
+        "15 while waiting", "15 while settling", "15 while braking",
+        "399.5 kPa is not saved", "400 kPa is saved", "550 kPa is saved", "20 kPa from the saved pressure: settling goes on",
+        "20.5 kPa from it: saved anew", "over 20 kPa from it, under 400: waiting", "thrown back at the 31st report",
+        "a drop of 20 kPa where it settles: no end", "59.5 kPa at count 1: braking", "60 kPa at count 1: passed",
+        "60 kPa before T_B: passed", "60 kPa at T_B: passed", "59.5 kPa at T_B: failed", "no drop at T_B: failed",
+        "T_B 1: passed", "T_B 1: failed", "T_B 100: passed at count 100", "a drop after a failure: still failed",
+        "cylinder: passed", "cylinder: 60 kPa less 1/32,768: braking", "cylinder: 60 kPa and 1/32,768: passed",
+        "60 kPa under P_REF, not under the saved pressure: braking", "60 kPa under the saved pressure, not under P_REF: passed"] + [
+        f"{phase}: {words} fails it" for phase in ("waiting", "settling", "braking")
+        for words in ("speed 1", "−50.5 kPa", "955.5 kPa")] + [
+        "settling: fails where it would settle", "braking: fails where it would pass"] + [
+        f"{phase}: {words} fails nothing" for phase in ("settling", "braking") for words in ("−50 kPa", "955 kPa", "ground alone")] + [
+        f"left to {name} while {phase}: failed" for name in ("CS", "DA", "FA") for phase in ("settling", "braking")] + [
+        f"02 refused {n}: it runs on" for n in (9, 10, 11)] + [
+        "a refused start: it runs on", "a start while settling", "a start while braking", "a start forgets a pass",
+        "a start forgets a failure", "passed, then failed", "failed, then passed", "bit 4 while another runs",
+        "bit 5 while another runs"] + [f"bit {bit} in {name}" for bit in (4, 5) for name in STATES] + [
+        "bit 4 with NÖDBROMSFEL", "order 2 with flag bit 0", "a fresh LOSS while it brakes",
+        "over T_B reports in DA after it braked: no bit 11", "T_B 1: none at the first report in DA", "P_REF set while a test runs",
+        "P_REF changed while settling", "P_REF changed while braking", "settled before there is a reference",
+        "DA: the drop is from the changed P_REF"] + [
+        f"{name} {words}, {side}" for words in ("with the extra", "after a pass") for name in (*curves.BOUNDARIES, "permitted")
+        for side in ("its last cm", "a cm before")] + [
+        "extra after a failure", "no extra after a pass and a failure", "no extra after a failure and a pass",
+        "an extra again after a start", "no extra without flag bit 2", "an extra with HALKA", "an extra downhill",
+        "an extra of an Expect Stop", "permitted speed by the extra", "a figure by the extra", "bit 2 by the extra alone",
+        "bit 11 at T_B with the extra", "failed at T_B with the extra"]
     yield "Figures", [
         "VMAX 100: 3,055 no order", "VMAX 100: 3,056 bit 0", "VMAX 100: 2,916 offered", "VMAX 100: 2,917 not offered",
         "P_FULL 380: 956 kPa gives 500 and the message", "full 700: 490 measured frees bit 6", "full 700: 489 doesn't"]
-    yield "Areas", [f"area written at {n}" for n in (0, 100)] + [f"area left alone at {n}" for n in range(1, 14)] + [
+    yield "Areas", [f"area written at {n}" for n in (0, 100)] + [f"area left alone at {n}" for n in range(1, 16)] + [
         f"area of {n} bytes: 1" for n in (0, 14, 17, 19, 32)] + [f"1 before {n}" for n in (2, 3, 4)] + [
         f"area left alone at {words}" for words in ("12 of a curve", "12 of a section", "12 of an ending section",
                                                     "13 of a curve", "13 of a section")] + [
         "a refused number accepted, with an area"]
+
+
+class BrakeTest:
+    """A brake test, by the pressures of its reports since its 40; P_REF as it stood then."""
+
+    def __init__(self, reference):
+        self.pressures, self.reference = [], reference
+
+    def told(self):
+        """Phase, saved pressure, and how many reports have come within 20 kPa of it or, braking, since."""
+        saved, count = None, 0
+        for number, p in enumerate(self.pressures, 1):
+            if saved is None or abs(pressures.f32(p - saved)) > 20:
+                saved, count = p if 400 <= p <= 550 else None, 0
+            else:
+                count += 1
+            if count == 30:
+                return "braking", saved, len(self.pressures) - number
+        return "waiting" if saved is None else "settling", saved, count
+
+    @property
+    def phase(self):
+        return self.told()[0]
+
+    @property
+    def saved(self):
+        return self.told()[1]
+
+    @property
+    def count(self):
+        return self.told()[2]
+
+    def drop_at(self, p):
+        return pressures.f32(self.saved - p)
 
 
 class Coverage:
@@ -193,6 +262,7 @@ class Coverage:
         self.refused_since = False
         self.figure_before = None
         self.error = None
+        self.test = self.tested = None
         at_byte = 0
         for self.line, text in enumerate(lines, 1):
             length = LENGTHS.get(stream[at_byte], 0)
@@ -224,6 +294,7 @@ class Coverage:
         else:
             self.see("a refused report in between", code == 0x10 and self.is_held())
             self.see("an error again, and refused", code == 0x32 and self.is_held())
+            self.refused_in_test(code, answer)
             self.expect(not report, "a refusal has no report")
             self.refused_numbers.add(number)
             self.refused_since = True
@@ -248,7 +319,7 @@ class Coverage:
         self.expect(answer == expected, f"the answer is {answer}, not {expected}")
         if answer == 100:
             for n in meets:
-                if n in (10, 12):
+                if n in (10, 12, 15):
                     self.see(f"again where {n} would refuse")
         for n in meets[1:]:
             if (meets[0], n) in PAIRS and answer == meets[0]:
@@ -273,6 +344,8 @@ class Coverage:
             if to > FA:
                 return []
             return [10] * (state == FA or PATHS[state][to] == 10) + [11] * (to == DA and unit.reference is None)
+        if code == 0x40:
+            return [14] * (state != DE) + [15] * (self.test is not None)
         meets = [10] * (state == FA and code not in (0x01, 0x10) or CODES[code][state] == 10)
         if code == 0x21:
             meets += [12] * (operands[0] not in unit.curves)
@@ -284,7 +357,7 @@ class Coverage:
         return meets
 
     def operands(self, code, operands, state, answer):
-        if answer in (0, *range(9, 14)):
+        if answer in (0, *range(9, 16)):
             self.expect((answer == 9) != in_range(code, operands), "9 is for an operand out of range")
             for o in OPERANDS:
                 if applies(o, code, operands):
@@ -299,7 +372,7 @@ class Coverage:
                 self.see("01 soft deceleration = full", soft == full and answer == 0)
                 self.see("01 soft deceleration = full + 1",
                          soft == full + 1 and answer == 9 and in_range(code, operands[:7] + operands[5:7] + operands[9:]))
-        if state is None or answer not in (0, 8, 10, 11):
+        if state is None or answer not in (0, 8, 10, 11, 14):
             return
         if code == 0x02 and operands[0] <= FA:
             way = f"{STATES[state]} to {STATES[operands[0]]}"
@@ -313,6 +386,8 @@ class Coverage:
     def repeated(self, code, number, operands, report):
         self.see(f"{code:02X} again")
         self.see("a repeat in between", code == 0x10 and self.is_held())
+        self.see("a repeat in between counts nothing", code == 0x10 and self.test is not None)
+        self.see("order 2 again", report[:2] == b"\0\2")
         self.expect(report == self.report, "the report of a repeat is the last one")
         self.see("again in FA", report[0] == FA)
         self.see("again after a refusal", self.refused_since)
@@ -352,6 +427,7 @@ class Coverage:
             self.reported(before, operands, report)
         else:
             self.told(code, operands, before, report)
+        self.tests(code, operands, before, report)
         if unit.state in (DA, FA):
             self.braking(code, before, report)
         self.written(report)
@@ -448,6 +524,202 @@ class Coverage:
         self.checks(before, buttons)
         self.held(before, v, buttons, report)
         self.figures(before, v, measured, report)
+
+    # -- F-3: a test is kept here with the pressures of its reports, and what a start or an ended test leaves
+
+    def tests(self, code, operands, before, report):
+        if code == 0x01:
+            self.forgotten(operands[0], report)
+        elif code == 0x40:
+            self.asked(before)
+        elif code == 0x02 and self.test is not None:
+            self.left_in_test(operands[0])
+        elif code == 0x10 and self.test is not None:
+            self.tried(before, *struct.unpack(">HHhhB", operands), report)
+        elif code == 0x10 and before.state == DE:
+            self.see("a drop after a failure: still failed",
+                     self.tested is False and self.unit.reference is not None and self.unit.drop >= 60)
+        elif code == 0x10 and before.state == DA:
+            self.in_da += 1
+            self.see("over T_B reports in DA after it braked: no bit 11",
+                     self.braked and self.in_da > self.unit.train["t_b"] and report[2:4] == b"\0\0")
+            self.see("T_B 1: none at the first report in DA",
+                     self.braked and self.in_da == self.unit.train["t_b"] == 1 and report[2:4] == b"\0\0")
+        self.messages(report)
+
+    def forgotten(self, flags, report):
+        """A start: neither a test nor a result is left."""
+        self.see("a start while settling", self.test is not None and self.test.phase == "settling")
+        self.see("a start while braking", self.test is not None and self.test.phase == "braking")
+        self.see("a start forgets a pass", self.tested is True)
+        self.see("a start forgets a failure", self.tested is False)
+        self.over_pass = self.tested is True
+        self.test = self.tested = None
+        self.ended = []
+        self.extra = 50 if flags & 4 else 0
+        self.in_da = 0
+        self.braked = self.p_ref_changed = False
+
+    def asked(self, before):
+        flags = self.unit.train["flags"]
+        self.see("asked before any report", before.last[0] == 0x01)
+        self.see("asked with a speed standing", before.v > 0)
+        self.see("asked with TRYCKGIVARFEL standing", self.report[12] & 4)
+        self.see("asked with a reference", before.reference is not None)
+        self.see("asked with flag bit 2" if flags & 4 else "asked without flag bit 2")
+        self.see("asked after one that passed", self.tested is True)
+        self.see("asked after one that failed", self.tested is False)
+        self.test = BrakeTest(before.reference)
+
+    def refused_in_test(self, code, answer):
+        if self.test is None:
+            return
+        if code == 0x02 and answer in (9, 10, 11):
+            self.see(f"02 refused {answer}: it runs on")
+        self.see("a refused start: it runs on", code == 0x01)
+        self.see("a refused report in between counts nothing", code == 0x10)
+        if answer == 15:
+            self.see(f"15 while {self.test.phase}")
+
+    def left_in_test(self, to):
+        phase = self.test.phase
+        if phase != "waiting":
+            self.see(f"left to {STATES[to]} while {phase}: failed")
+        self.braked = phase == "braking"
+        self.test_ends(False)
+
+    def test_ends(self, passed):
+        self.see("passed, then failed", self.tested is True and not passed)
+        self.see("failed, then passed", self.tested is False and passed)
+        self.test, self.tested = None, passed
+        self.ended.append(passed)
+        if passed:
+            self.extra = 0
+
+    def tried(self, before, v, moved, _, half, buttons, report):
+        """A report in DE while a test runs."""
+        unit, test = self.unit, self.test
+        cylinder, p_full = unit.train["flags"] >> 1 & 1, unit.train["p_full"]
+        p, fault = pressures.pressure(cylinder, p_full, Fraction(half, 2), Fraction(0))
+        self.own_feedback(before, test)
+        if fault or v > 0:
+            self.broken_off(test, v, half, p)
+            self.test_ends(False)
+            return
+        phase, saved, count = test.phase, test.saved, test.count
+        test.pressures.append(p)
+        for words, met in (("−50 kPa", half == -100), ("955 kPa", half == 1910), ("ground alone", moved > 0)):
+            if phase != "waiting" and test.phase == phase:
+                self.see(f"{phase}: {words} fails nothing", met)
+        if phase == "braking":
+            self.braking_test(test, p, cylinder)
+        else:
+            self.settling_test(test, phase, saved, count, p, report)
+        if self.test is not None and test.phase == "braking":
+            self.see("order 2 with flag bit 0", unit.train["flags"] & 1 and report[1] == 2)
+            self.see("a fresh LOSS while it brakes", buttons & ~before.buttons & LOSS)
+
+    def own_feedback(self, before, test):
+        """What the unit's own feedback does at a test's report."""
+        if before.reference is None:
+            self.see("P_REF set while a test runs", self.unit.reference is not None)
+        elif self.unit.reference != before.reference:
+            self.p_ref_changed = True
+            if test.phase != "waiting":
+                self.see(f"P_REF changed while {test.phase}")
+
+    def broken_off(self, test, v, half, p):
+        for words, met in (("speed 1", v == 1), ("−50.5 kPa", half == -101), ("955.5 kPa", half == 1911)):
+            self.see(f"{test.phase}: {words} fails it", met)
+        near = test.phase == "settling" and abs(pressures.f32(p - test.saved)) <= 20
+        self.see("settling: fails where it would settle", near and test.count == 29)
+        self.see("braking: fails where it would pass", test.phase == "braking" and test.drop_at(p) >= 60)
+
+    def settling_test(self, test, phase, saved, count, p, report):
+        number = len(test.pressures)
+        self.see("the 30th report: no order yet", number == 30 and test.count == 29 and report[1] == 0)
+        if test.phase == "braking":
+            self.expect(count == 29 and number >= 31, "it settles at the 31st report at the earliest")
+            self.see("the 31st report: order 2", number == 31 and report[1] == 2)
+            self.see("the 31st report: order 2, with a reference from before",
+                     number == 31 and report[1] == 2 and test.reference is not None)
+            self.see("a drop of 20 kPa where it settles: no end", test.drop_at(p) == 20)
+            self.see("settled before there is a reference", self.unit.reference is None)
+        if phase == "waiting":
+            self.see("399.5 kPa is not saved", p == Fraction(799, 2) and test.phase == "waiting")
+            self.see("400 kPa is saved", p == 400 and test.saved == 400)
+            self.see("550 kPa is saved", p == 550 and test.saved == 550)
+        else:
+            away = abs(pressures.f32(p - saved))
+            self.see("20 kPa from the saved pressure: settling goes on", away == 20 and test.saved == saved)
+            self.see("20.5 kPa from it: saved anew", away == Fraction(41, 2) and test.saved == p)
+            self.see("over 20 kPa from it, under 400: waiting", away > 20 and test.phase == "waiting")
+            self.see("thrown back at the 31st report", number == 31 and count == 29 and away > 20)
+
+    def braking_test(self, test, p, cylinder):
+        t_b, count, drop = self.unit.train["t_b"], test.count, test.drop_at(p)
+        passes, fails = drop >= 60, drop < 60 and count == t_b
+        near = drop == Fraction(119, 2)
+        self.see("59.5 kPa at count 1: braking", near and count == 1 and not fails)
+        self.see("60 kPa at count 1: passed", drop == 60 and count == 1)
+        self.see("60 kPa before T_B: passed", drop == 60 and 1 < count < t_b)
+        self.see("60 kPa at T_B: passed", drop == 60 and count == t_b > 1)
+        self.see("59.5 kPa at T_B: failed", near and fails)
+        self.see("no drop at T_B: failed", drop == 0 and fails)
+        self.see("T_B 1: passed", t_b == 1 and passes)
+        self.see("T_B 1: failed", t_b == 1 and fails)
+        self.see("T_B 100: passed at count 100", t_b == count == 100 and passes)
+        self.see("cylinder: passed", cylinder and passes)
+        self.see("cylinder: 60 kPa less 1/32,768: braking", cylinder and drop == 60 - Fraction(1, 32768) and not fails)
+        self.see("cylinder: 60 kPa and 1/32,768: passed", cylinder and drop == 60 + Fraction(1, 32768))
+        self.see("failed at T_B with the extra", fails and self.extra)
+        if self.unit.reference is not None:
+            own = self.unit.drop >= 60
+            self.see("60 kPa under P_REF, not under the saved pressure: braking", own and not passes and not fails)
+            self.see("60 kPa under the saved pressure, not under P_REF: passed", passes and not own)
+        if passes or fails:
+            self.test_ends(passes)
+
+    def messages(self, report):
+        """Bits 3 to 5 in every state, and the order in DE."""
+        runs = self.test is not None
+        self.expect(report[12] >> 3 == runs | (self.tested is True) << 1 | (self.tested is False) << 2, "bits 3 to 5 go by the tests")
+        if report[0] == DE:
+            self.expect(report[1] == (2 if runs and self.test.phase == "braking" else 0), "the order in DE goes by the test")
+        for bit in (4, 5):
+            self.see(f"bit {bit} in {STATES[report[0]]}", report[12] >> bit & 1)
+            self.see(f"bit {bit} while another runs", runs and report[12] >> bit & 1)
+        self.see("bit 4 with NÖDBROMSFEL", report[12] & 18 == 18)
+        if self.p_ref_changed and report[0] == DA and report[9] == 6:
+            enough = self.unit.train["sufficient"]
+            self.see("DA: the drop is from the changed P_REF", self.unit.drop == enough and report[11] == 3)
+            self.expect(self.unit.drop >= enough or report[11] == 4, "the mode in D goes by the drop")
+
+    def leads(self, train, held, shown, report):
+        """The curves of a train with flag bit 2, in DA: each boundary with the extra or, after a pass, without."""
+        v, flag = self.unit.v, self.unit.train["flags"] & 4
+        plain = train._replace(t_b=self.unit.train["t_b"])
+        self.see("no extra without flag bit 2", not flag and self.ended == [False])
+        if not flag:
+            return
+        permitted = min([self.unit.vmax] + [curves.permitted(train, c) for c in held.values()])
+        self.expect(struct.unpack(">H", report[4:6])[0] == permitted, "the permitted speed goes by the extra")
+        words = "with the extra" if self.extra else "after a pass"
+        for name in (*curves.BOUNDARIES, "permitted"):
+            here, nearer, farther = (curves.reached(train, shown._replace(d=max(0, shown.d + by)), v, name) for by in (0, -1, 1))
+            self.see(f"{name} {words}, its last cm", here and not farther)
+            self.see(f"{name} {words}, a cm before", nearer and not here)
+        self.see("extra after a failure", self.extra and self.ended == [False])
+        self.see("no extra after a pass and a failure", not self.extra and self.ended == [True, False])
+        self.see("no extra after a failure and a pass", not self.extra and self.ended == [False, True])
+        self.see("an extra again after a start", self.extra and self.over_pass)
+        if self.extra and curves.interval(train, shown, v) != curves.interval(plain, shown, v):
+            self.see("an extra with HALKA", train.halka)
+            self.see("an extra downhill", shown.gradient < 0)
+            self.see("an extra of an Expect Stop", shown.kind == 1)
+            self.see("bit 2 by the extra alone", report[3] & 4 and not self.report[3] & 4 and not curves.brakes(plain, shown, v))
+        self.see("permitted speed by the extra", permitted < min([self.unit.vmax] + [curves.permitted(plain, c) for c in held.values()]))
+        self.see("a figure by the extra", curves.to_change(train, shown, v) != curves.to_change(plain, shown, v))
 
     # -- F-2: an error is kept here with its speed, and with the number of reports in DA since
 
@@ -615,6 +887,7 @@ class Coverage:
         if fault:
             self.expect(self.since_order == t_b, "bit 11 comes at the T_B-th report")
             self.see("bit 11 at the T_B-th report")
+            self.see("bit 11 at T_B with the extra", self.extra)
             self.see("a drop at the beginning doesn't count", self.begun_with_drop)
             self.see("bit 11 begins the emergency check", before.emergency is None and unit.emergency == 0)
             self.since_fault = 0
@@ -666,7 +939,8 @@ class Coverage:
             self.see(name, report[12] >> bit & 1)
         self.see(f"TRYCKGIVARFEL in {STATES[state]}", report[12] & 4)
         if state != DA:
-            outside = bytes([state, 3 if state == FA else 0, 0, 0, 0, 0, 0, 0, 255, 0, 0, 0, report[12], 0, 255, 255, 255, 255])
+            ordered = 3 if state == FA else order if state == DE else 0  # in DE: see messages
+            outside = bytes([state, ordered, 0, 0, 0, 0, 0, 0, 255, 0, 0, 0, report[12], 0, 255, 255, 255, 255])
             self.expect(report == outside, "the report outside DA")
             self.see("outside DA")
             self.see("at the report that leads to FA", state == FA and self.report is not None and self.report[0] == DA)
@@ -702,6 +976,8 @@ class Coverage:
         shown = held[report[8]]
         now = curves.interval(train, shown, unit.v)
         self.expect(figure == curves.to_change(train, shown, unit.v), "the figure is the most with no change")
+        self.expect(INTERVALS[report[9]] == now or report[9] == 2 and now in ("A", "Bf"), "the interval is the computed one, or Ab")
+        self.leads(train, held, shown, report)
         if figure == LAST:
             floor = not 9 * unit.v > 250 * shown.speed
             self.see("no change down to 0 in F", now == "F")
@@ -720,6 +996,7 @@ class Coverage:
             self.see("43,325 cm: 0", shown.d == 43325 and figure == 0)
         self.against(train, unit.v, report, shown, now)
         over = curves.reached(train, shown, unit.v, "permitted")
+        self.expect(report[9] != 4 or report[11] == 2 + over, "the mode in B goes by the permitted boundary")
         self.figure_before = (report[8], train, unit.v, shown, now, INTERVALS[report[9]], figure, over)
 
     def against(self, train, v, report, shown, now):
@@ -745,8 +1022,8 @@ class Coverage:
     def judged(self):
         """The train and the curves as tests/curve.py has them."""
         unit, t = self.unit, self.unit.train
-        train = curves.Train(t["full"], t["soft"], int(bool(unit.buttons & HALKA)), t["t_b"], t["g_c"], t["g_p"], t["g_bf"],
-                             t["f_margin"])
+        train = curves.Train(t["full"], t["soft"], int(bool(unit.buttons & HALKA)), t["t_b"] + self.extra, t["g_c"], t["g_p"],
+                             t["g_bf"], t["f_margin"])
         return train, {n: curves.Curve(c["kind"], c["d"], c["speed"], c["gradient"], 0) for n, c in unit.curves.items()}
 
     def orders(self, order, causes):

@@ -98,6 +98,7 @@ def limits_of_start():
         for value in (low - 1, high + 1):
             if 0 <= value <= top:
                 refused(start(**dict({"soft": soft}, **{name: value})))
+    # Flags 4, here and above, are taken since F-3. The start after them has the same number, so the commands are as they were.
     for bit in range(2, 8):
         refused(start(flags=1 << bit))
     for flags in (1, 2):

@@ -21,9 +21,10 @@ const SECTION_END: u8 = 0x23;
 const STOP_PASSED: u8 = 0x30;
 const PROCEED: u8 = 0x31;
 const BALISE_ERROR: u8 = 0x32;
+const TEST_BRAKES: u8 = 0x40;
 
 /// Every code with its whole length in bytes.
-const LENGTHS: [(u8, usize); 10] = [
+const LENGTHS: [(u8, usize); 11] = [
     (START, 24),
     (STATE, 6),
     (ODOMETER, 14),
@@ -34,6 +35,7 @@ const LENGTHS: [(u8, usize); 10] = [
     (STOP_PASSED, 6),
     (PROCEED, 5),
     (BALISE_ERROR, 5),
+    (TEST_BRAKES, 5),
 ];
 const LONGEST: usize = 24;
 
@@ -67,6 +69,8 @@ struct Train {
     sufficient: f32,
     p_full: f32,
     t_ebchk: i64,
+    /// What the leads of the curves have besides T_B (F-3).
+    extra: i64,
 }
 
 struct Odometer {
@@ -111,6 +115,7 @@ enum Command {
     StopPassed(u8),
     Proceed,
     BaliseError,
+    TestBrakes,
 }
 
 fn wide(bytes: &[u8], at: usize) -> i64 {
@@ -144,8 +149,9 @@ fn decode(code: u8, o: &[u8]) -> Option<Command> {
                 sufficient: f32::from(o[15]),
                 p_full: wide(o, 16) as f32,
                 t_ebchk: byte(18),
+                extra: if o[0] & 4 != 0 { UNTESTED } else { 0 },
             };
-            let good = o[0] & !3 == 0
+            let good = o[0] & !7 == 0
                 && (10..=300).contains(&train.speed)
                 && (10..=1000).contains(&wide(o, 3))
                 && (400..=2000).contains(&train.full)
@@ -214,6 +220,7 @@ fn decode(code: u8, o: &[u8]) -> Option<Command> {
         STOP_PASSED => (o[0] <= 2).then_some(Command::StopPassed(o[0])),
         PROCEED => Some(Command::Proceed),
         BALISE_ERROR => Some(Command::BaliseError),
+        TEST_BRAKES => Some(Command::TestBrakes),
         _ => None,
     }
 }
@@ -340,8 +347,11 @@ fn above(v: i64, k: i64) -> bool {
 }
 
 impl Train {
+    fn lead_d(&self) -> i64 {
+        self.t_b + self.extra
+    }
     fn lead_c(&self) -> i64 {
-        self.t_b + self.g_c
+        self.lead_d() + self.g_c
     }
     fn lead_permitted(&self) -> i64 {
         self.lead_c() + self.g_p
@@ -390,7 +400,7 @@ impl Curve {
             F
         } else if self.reached(b, v, 0) {
             E
-        } else if self.reached(b, v, train.t_b) {
+        } else if self.reached(b, v, train.lead_d()) {
             D
         } else if self.reached(b, v, train.lead_c()) {
             C
@@ -419,7 +429,7 @@ impl Curve {
                 (BF, train.lead_bf()),
                 (B, train.lead_b()),
                 (C, train.lead_c()),
-                (D, train.t_b),
+                (D, train.lead_d()),
                 (E, 0),
             ];
             let later = leads.iter().filter(|(interval, _)| *interval > now);
@@ -486,9 +496,18 @@ const FULL: u16 = CURVE_FULL | STOP_UNEXPECTED_FULL | LANDSLIDE;
 
 const PLACES: usize = 16;
 const CHECKED_DROP: f32 = 60.0;
+/// Tenths of a second: the extra lead where no approved ETCS test exists and no brake test has passed (F-3).
+const UNTESTED: i64 = 50;
 const ROLLED_TOO_FAR: i64 = 500;
 
 type Report = [u8; 18];
+
+/// A brake test that runs (F-3): its own pressure settles, then it brakes, counting the reports since.
+#[derive(Clone, Copy)]
+enum BrakeTest {
+    Settling(Phase),
+    Braking { p0: f32, count: i64 },
+}
 
 struct Unit {
     train: Train,
@@ -513,6 +532,9 @@ struct Unit {
     emergency_check: Option<i64>,
     service_fault: bool,
     emergency_fault: bool,
+    test: Option<BrakeTest>,
+    /// Whether the last brake test that ended passed.
+    tested: Option<bool>,
 }
 
 impl Unit {
@@ -536,15 +558,17 @@ impl Unit {
             emergency_check: None,
             service_fault: false,
             emergency_fault: false,
+            test: None,
+            tested: None,
         }
     }
 
-    /// Refusals 10 to 13.
+    /// Refusals 10 to 15.
     fn refusal(&self, command: &Command) -> Option<u8> {
         let in_da = self.state == State::Da;
         let in_hs_or_da = in_da || self.state == State::Hs;
         let allowed = match command {
-            Command::Start(_) | Command::Odometer(_) => true,
+            Command::Start(_) | Command::Odometer(_) | Command::TestBrakes => true,
             Command::State(next) => self.path_to(*next),
             Command::StopPassed(_) | Command::BaliseError => in_da,
             Command::Curve(_)
@@ -578,6 +602,8 @@ impl Unit {
             {
                 Some(13)
             }
+            Command::TestBrakes if self.state != State::De => Some(14),
+            Command::TestBrakes if self.test.is_some() => Some(15),
             _ => None,
         }
     }
@@ -645,11 +671,15 @@ impl Unit {
                 self.waiting = if above(self.speed, 80) { None } else { Some(20) };
                 self.begin_checks(before);
             }
+            Command::TestBrakes => self.test = Some(BrakeTest::Settling(Phase::Waiting)),
         }
     }
 
     fn enter(&mut self, next: State) {
         self.state = next;
+        if self.test.is_some() {
+            self.end_test(false);
+        }
         if next == State::Cs {
             self.curves.clear();
             self.sections.clear();
@@ -674,8 +704,41 @@ impl Unit {
         let fresh = report.buttons & !self.buttons;
         self.buttons = report.buttons;
         self.speed = report.speed;
-        if self.state == State::Da {
-            self.judge(report, fresh);
+        match self.state {
+            State::De => self.try_brakes(),
+            State::Da => self.judge(report, fresh),
+            _ => {}
+        }
+    }
+
+    /// A report in DE, once measured, for a brake test that runs.
+    fn try_brakes(&mut self) {
+        let Some(test) = self.test else { return };
+        let p_int = self.feedback.p_int;
+        if self.feedback.fault || self.speed > 0 {
+            self.end_test(false);
+            return;
+        }
+        match test {
+            BrakeTest::Settling(phase) => {
+                self.test = Some(match next_phase(phase, p_int) {
+                    Phase::Set { p_ref, .. } => BrakeTest::Braking { p0: p_ref, count: 0 },
+                    unsettled => BrakeTest::Settling(unsettled),
+                })
+            }
+            BrakeTest::Braking { p0, .. } if p0 - p_int >= CHECKED_DROP => self.end_test(true),
+            BrakeTest::Braking { count, .. } if count + 1 == self.train.t_b => self.end_test(false),
+            BrakeTest::Braking { p0, count } => {
+                self.test = Some(BrakeTest::Braking { p0, count: count + 1 })
+            }
+        }
+    }
+
+    fn end_test(&mut self, passed: bool) {
+        self.test = None;
+        self.tested = Some(passed);
+        if passed {
+            self.train.extra = 0;
         }
     }
 
@@ -871,8 +934,12 @@ impl Unit {
         report[14..].fill(255);
         report[12] = u8::from(self.service_fault)
             | u8::from(self.emergency_fault) << 1
-            | u8::from(self.feedback.fault) << 2;
+            | u8::from(self.feedback.fault) << 2
+            | u8::from(self.test.is_some()) << 3
+            | u8::from(self.tested == Some(true)) << 4
+            | u8::from(self.tested == Some(false)) << 5;
         match self.state {
+            State::De if matches!(self.test, Some(BrakeTest::Braking { .. })) => report[1] = 2,
             State::Da => self.report_in_da(&mut report),
             State::Fa => report[1] = 3,
             _ => {}
@@ -1118,6 +1185,34 @@ mod tests {
         })
     }
 
+    /// A report at a standstill.
+    fn standing(half_kpa: i16) -> Command {
+        Command::Odometer(Odometer {
+            speed: 0,
+            moved: 0,
+            measured: 0,
+            p_ext: half_kpa,
+            buttons: 0,
+        })
+    }
+
+    /// Order and messages as a command leaves them.
+    fn after(unit: &mut Unit, command: Command) -> (u8, u8) {
+        unit.obey(command);
+        let report = unit.report();
+        (report[1], report[12])
+    }
+
+    fn settled_test(train: Train) -> Unit {
+        let mut unit = Unit::new(train);
+        assert_eq!(after(&mut unit, Command::TestBrakes), (0, 8));
+        for _ in 0..30 {
+            assert_eq!(after(&mut unit, standing(1000)), (0, 8));
+        }
+        assert_eq!(after(&mut unit, standing(1000)), (2, 8));
+        unit
+    }
+
     fn curve(stop: bool, distance: i64, speed: i64) -> Curve {
         Curve {
             id: 7,
@@ -1347,5 +1442,58 @@ mod tests {
         assert_eq!(unit.vmax(), 50);
         unit.obey(odometer(100, 1, 0, 0));
         assert_eq!(unit.vmax(), 160);
+    }
+
+    #[test]
+    fn a_brake_test_passes_with_60_kpa_up_to_t_b() {
+        let train = Train {
+            t_b: 3,
+            ..example_train()
+        };
+        for early in [0, 1, 2] {
+            let mut unit = settled_test(train);
+            for _ in 0..early {
+                assert_eq!(after(&mut unit, standing(1000 - 119)), (2, 8));
+            }
+            assert_eq!(after(&mut unit, standing(1000 - 120)), (0, 16));
+            assert_eq!(after(&mut unit, Command::TestBrakes), (0, 24));
+        }
+        let mut unit = settled_test(train);
+        assert_eq!(after(&mut unit, standing(1000)), (2, 8));
+        assert_eq!(after(&mut unit, standing(1000)), (2, 8));
+        assert_eq!(after(&mut unit, standing(1000 - 119)), (0, 32));
+    }
+
+    #[test]
+    fn a_brake_test_fails_by_pressure_speed_and_state() {
+        let train = example_train();
+        for bad in [standing(-101), standing(1911), odometer(1, 0, 0, 0)] {
+            let mut unit = settled_test(train);
+            let (order, messages) = after(&mut unit, bad);
+            assert_eq!((order, messages & !4), (0, 32));
+        }
+        let mut unit = settled_test(train);
+        assert_eq!(after(&mut unit, standing(-100)), (0, 16));
+        for state in [State::Cs, State::Da, State::Fa] {
+            let mut unit = settled_test(train);
+            assert_eq!(after(&mut unit, Command::State(state)).1, 32);
+        }
+    }
+
+    #[test]
+    fn the_extra_goes_with_the_first_test_that_passes() {
+        let untested = Train {
+            extra: UNTESTED,
+            ..example_train()
+        };
+        let at = |train: &Train, d| curve(false, d, 40).interval(train, false, 2500);
+        assert_eq!((at(&untested, 35_824), at(&untested, 35_825)), (E, D));
+        assert_eq!((at(&untested, 55_824), at(&untested, 55_825)), (D, C));
+        let mut unit = settled_test(untested);
+        unit.obey(standing(880));
+        assert_eq!((at(&unit.train, 43_324), at(&unit.train, 43_325)), (D, C));
+        unit.obey(Command::TestBrakes);
+        unit.obey(odometer(1, 0, 0, 0));
+        assert_eq!((unit.tested, unit.train.extra), (Some(false), 0));
     }
 }

@@ -128,8 +128,13 @@ def vectors():
     return b''.join(out)
 
 
-if len(sys.argv) > 1 and sys.argv[1] == 'vectors':
-    sys.stdout.buffer.write(vectors())
-else:
-    for line in lines(sys.stdin.buffer.read()):
-        print(line)
+def main():
+    if len(sys.argv) > 1 and sys.argv[1] == 'vectors':
+        sys.stdout.buffer.write(vectors())
+    else:
+        for line in lines(sys.stdin.buffer.read()):
+            print(line)
+
+
+if __name__ == '__main__':
+    main()

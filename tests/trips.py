@@ -6,7 +6,7 @@
 The same seed and count always give the same stream. COUNT commands are written,
 each of a known code and its whole length. With "unknown" one byte that is no code
 follows them, with "short" a command that breaks off. With "by-01" the trips steer
-by 01 alone, as before F-2 of 02: then they are the commands recorded before it.
+by 01 alone, as before F-2 and F-3 of 02: then they are the commands recorded before.
 
 A picture of the unit is kept beside the stream, so that the trips know what would
 be taken next and where the limits lie. Only the stream is written.
@@ -21,17 +21,18 @@ DE, CS, HS, DA, FA = range(5)
 LOSS, TEXT, HALKA, NEUTRAL = 1, 2, 4, 8
 START, STATE, ODOMETER = 0x01, 0x02, 0x10
 CURVE, CURVE_END, SECTION, SECTION_END = 0x20, 0x21, 0x22, 0x23
-STOP_PASSED, PROCEED, BALISE_ERROR = 0x30, 0x31, 0x32
+STOP_PASSED, PROCEED, BALISE_ERROR, TEST_BRAKES = 0x30, 0x31, 0x32, 0x40
 LENGTHS = {START: 24, STATE: 6, ODOMETER: 14, CURVE: 12, CURVE_END: 6, SECTION: 8,
-           SECTION_END: 6, STOP_PASSED: 6, PROCEED: 5, BALISE_ERROR: 5}
+           SECTION_END: 6, STOP_PASSED: 6, PROCEED: 5, BALISE_ERROR: 5, TEST_BRAKES: 5}
 PATHS = {(DE, CS), (DE, DA), (CS, HS), (HS, CS), (HS, DA), (DA, CS)}
 EMERGENCY = 1 << 1 | 1 << 4 | 1 << 5 | 1 << 6 | 1 << 11
-START_FIELDS = (("flags", "B", 0, 3), ("speed", "H", 10, 300), ("length", "H", 10, 1000),
+START_FIELDS = (("flags", "B", 0, 7), ("speed", "H", 10, 300), ("length", "H", 10, 1000),
                 ("full", "H", 400, 2000), ("soft", "H", 400, 2000), ("t_b", "B", 1, 100),
                 ("g_c", "B", 0, 200), ("g_p", "B", 0, 200), ("g_bf", "B", 0, 200),
                 ("f_margin", "B", 1, 30), ("e_margin", "B", 11, 30),
                 ("sufficient", "B", 30, 150), ("p_full", "H", 150, 600), ("t_ebchk", "B", 1, 100))
 START_FORM = ">" + "".join(form for _, form, _, _ in START_FIELDS)
+BY_01 = (("flags", "B", 0, 3),) + START_FIELDS[1:]
 
 
 def f32(x):
@@ -53,6 +54,13 @@ def upto(k):
     return 250 * k // 9
 
 
+def settled(phase, pressure, count, p):
+    """The phase of a pressure that waits or settles, after a report of p."""
+    if phase == "settling" and abs(f32(p - pressure)) <= 20:
+        return ("set", pressure, 0) if count == 29 else ("settling", pressure, count + 1)
+    return ("settling", p, 0) if 400 <= p <= 550 else ("waiting", pressure, count)
+
+
 # ---------------------------------------------------------------- the picture
 
 
@@ -60,8 +68,9 @@ class Picture:
     """What the trips believe of the unit: all but its report."""
 
     def __init__(self, by_01=False):
-        """`by_01`: with the release of bit 9 that 01 has, before F-2 of 02."""
+        """`by_01`: with the release of bit 9 and the flags that 01 has, before F-2 and F-3 of 02."""
         self.by_01 = by_01
+        self.start_fields = BY_01 if by_01 else START_FIELDS
         self.started = False
         self.number = 0
         self.last = b""
@@ -76,6 +85,9 @@ class Picture:
         self.p_int = 0.0
         self.v = 0
         self.buttons = 15
+        self.test = None  # of a brake test that runs: phase, pressure and count
+        self.tested = None  # whether the last one that ended passed
+        self.extra = 50 if train["flags"] & 4 else 0
         self.clear()
 
     def clear(self):
@@ -122,10 +134,10 @@ class Picture:
 
     def take_01(self, operands):
         values = struct.unpack(START_FORM, operands)
-        for value, (_, _, low, high) in zip(values, START_FIELDS):
+        for value, (_, _, low, high) in zip(values, self.start_fields):
             if not low <= value <= high:
                 return 9
-        train = {name: value for value, (name, _, _, _) in zip(values, START_FIELDS)}
+        train = {name: value for value, (name, _, _, _) in zip(values, self.start_fields)}
         if train["soft"] > train["full"]:
             return 9
         self.begin(train)
@@ -140,6 +152,8 @@ class Picture:
         if to == DA and self.reference is None:
             return 11
         self.state = to
+        if self.test is not None:
+            self.end_test(False)
         if to == CS:
             self.clear()
         return 0
@@ -160,6 +174,8 @@ class Picture:
         self.measure(half)
         fresh = buttons & ~self.buttons
         self.v, self.buttons = v, buttons
+        if self.test is not None:
+            self.try_brakes(v, half)
         if self.state == DA:
             self.judge(v, moved, measured, fresh)
         return 0
@@ -236,6 +252,32 @@ class Picture:
         self.start_checks(before)
         return 0
 
+    def take_40(self, _):
+        if self.state != DE:
+            return 14
+        if self.test is not None:
+            return 15
+        self.test = ("waiting", 0.0, 0)
+        return 0
+
+    def try_brakes(self, v, half):
+        """A report in DE for the brake test that runs."""
+        phase, pressure, count = self.test
+        if v > 0 or not -100 <= half <= 1910:
+            self.end_test(False)
+        elif phase != "set":
+            self.test = settled(phase, pressure, count, self.p_int)
+        elif f32(pressure - self.p_int) >= 60:
+            self.end_test(True)
+        elif count + 1 == self.train["t_b"]:
+            self.end_test(False)
+        else:
+            self.test = (phase, pressure, count + 1)
+
+    def end_test(self, passed):
+        self.test, self.tested = None, passed
+        self.extra = 0 if passed else self.extra
+
     def measure(self, half):
         kpa = half / 2
         if kpa < -50:
@@ -253,14 +295,8 @@ class Picture:
                     self.pressure = f32(self.pressure + 1.5)
                 elif p < self.pressure <= f32(p + 30):
                     self.pressure = f32(self.pressure - 0.5)
-        elif self.phase == "settling" and abs(f32(p - self.pressure)) <= 20:
-            self.count += 1
-            if self.count == 30:
-                self.phase, self.count = "set", 0
-        elif 400 <= p <= 550:
-            self.phase, self.pressure, self.count = "settling", p, 0
         else:
-            self.phase = "waiting"
+            self.phase, self.pressure, self.count = settled(self.phase, self.pressure, self.count, p)
 
     def deceleration(self, curve):
         b = self.train["soft" if self.buttons & HALKA else "full"]
@@ -268,7 +304,7 @@ class Picture:
 
     def leads(self):
         t = self.train
-        d = t["t_b"]
+        d = t["t_b"] + self.extra
         c = d + t["g_c"]
         p = c + t["g_p"]
         return {"Bf": p + 30 + t["g_bf"], "B": p + 30, "P": p, "C": c, "D": d, "E": 0}
@@ -387,6 +423,7 @@ class Trips:
         self.left = count
         self.out = []
         self.unit = Picture(by_01)
+        self.codes = [code for code in LENGTHS if code != TEST_BRAKES or not by_01]
         self.decks = {}
         self.disturbing = 0.05
         self.fresh_driver()
@@ -483,7 +520,10 @@ class Trips:
 
     def half_kpa(self, drop):
         """P_EXT for a pressure this much under the reference or the saved or resting pressure."""
-        wanted = (self.rest if self.unit.phase == "waiting" else self.unit.pressure) - drop
+        return self.half_for((self.rest if self.unit.phase == "waiting" else self.unit.pressure) - drop)
+
+    def half_for(self, wanted):
+        """P_EXT for this pressure."""
         train = self.unit.train
         if train["flags"] & 2:
             half = round(2 * (500 - wanted) * train["p_full"] / 150)
@@ -534,11 +574,11 @@ class Trips:
                 self.emit(unit.last[0], unit.number, bytes(changed))
         elif kind == "number":
             wrong = self.pick(following + 1, following - 2, 1, LAST, self.between(1, LAST))
-            code = self.pick(*LENGTHS)
+            code = self.pick(*self.codes)
             if code != START and wrong not in (following, unit.number):
                 self.emit(code, wrong, bytes(LENGTHS[code] - 5))
         elif kind == "zero":
-            code = self.pick(*LENGTHS)
+            code = self.pick(*self.codes)
             self.emit(code, 0, bytes(LENGTHS[code] - 5))
         elif kind == "range":
             code, operands = self.out_of_range()
@@ -556,7 +596,7 @@ class Trips:
 
     def bad_start(self):
         train = self.train_data()
-        name, form, low, high = self.deal("bad start", START_FIELDS)
+        name, form, low, high = self.deal("bad start", self.unit.start_fields)
         top = 255 if form == "B" else 65535
         outside = [value for value in (low - 1, high + 1, 0, top) if 0 <= value <= top
                    and not low <= value <= high]
@@ -597,6 +637,8 @@ class Trips:
                         (SECTION, struct.pack(">BH", 3, 70)), (SECTION_END, b"\3"), (PROCEED, b"")]
         if self.unit.reference is None and (state, DA) in PATHS:
             choices += [(STATE, bytes([DA]))] * 3
+        if not self.unit.by_01 and (state != DE or self.unit.test is not None):
+            choices += [(TEST_BRAKES, b"")] * 3
         code, operands = self.pick(*choices)
         self.emit(code, number, operands)
 
@@ -604,10 +646,10 @@ class Trips:
 
     def train_data(self):
         if self.chance(0.12):
-            train = {name: self.pick(low, high) for name, _, low, high in START_FIELDS}
+            train = {name: self.pick(low, high) for name, _, low, high in self.unit.start_fields}
         else:
             train = {
-                "flags": self.deal("flags", (0, 1, 2, 3)),
+                "flags": self.deal("flags", range(self.unit.start_fields[0][3] + 1)),
                 "speed": self.pick(100, 160, 170, 200, self.spread(10, 300), self.spread(60, 300)),
                 "length": self.pick(10, 11, 25, self.between(10, 60), self.between(10, 60),
                                     self.spread(10, 1000)),
@@ -641,7 +683,7 @@ class Trips:
 
     def before_any_start(self):
         for _ in range(3):
-            code = self.pick(*(code for code in LENGTHS if code != START))
+            code = self.pick(*(code for code in self.codes if code != START))
             self.emit(code, self.between(0, 3), bytes(LENGTHS[code] - 5))
         self.emit(START, 0, self.packed(self.train_data()))
         self.emit(START, 1, self.bad_start())
@@ -695,6 +737,74 @@ class Trips:
             self.odometer(half=self.pick(1100, 1100, 1900))
         for _ in range(self.pick(10, 20)):
             self.odometer(half=self.pick(-101, -2000))
+
+    # -- things that happen in DE
+
+    def brake_tests(self):
+        """Brake tests, one after the other, with a reference or without; the last may be left unfinished."""
+        if self.chance(0.3):
+            self.settle()
+        for _ in range(self.pick(0, 1, 1, 2)):
+            if self.unit.test is None:
+                self.brake_test()
+        self.v = 0
+
+    def brake_test(self):
+        """A brake test that ends in one of the ways there are, or is left open."""
+        unit = self.unit
+        end = self.deal("test", ("at once", "later", "later", "at T_B", "at T_B", "never", "never", "speed", "sensor", "start", "open",
+                                 "early speed", "early sensor", "early start", "early open"))
+        if self.chance(0.6):
+            self.odometer(v=self.pick(0, 40), half=self.pick(None, None, 1911))
+        self.send(TEST_BRAKES)
+        if self.chance(0.3):
+            self.emit(TEST_BRAKES, unit.number + self.pick(0, 1))
+        self.settle_test(self.between(0, 30) if end.startswith("early") else None)
+        if end in ("at once", "later", "at T_B", "never"):
+            t_b = unit.train["t_b"]
+            self.brake_for_test({"at once": 1, "later": self.between(1, t_b), "at T_B": t_b, "never": None}[end])
+        elif end.endswith("speed"):
+            self.odometer(v=self.pick(1, 1, 40, 10000), half=self.half_for(self.test_pressure() - self.pick(0, 60)))
+        elif end.endswith("sensor"):
+            self.odometer(v=0, half=self.pick(-101, 1911, -32768, 32767))
+        elif end.endswith("start"):
+            self.start()
+        elif self.chance(0.2):
+            self.state(FA)
+
+    def test_pressure(self):
+        """The pressure that the test saved, or one that it can save."""
+        return self.rest if self.unit.test is None or self.unit.test[0] == "waiting" else self.unit.test[1]
+
+    def settle_test(self, most):
+        """Reports until the test's pressure is settled, with or without a setback, or so many at most."""
+        unit, train = self.unit, self.unit.train
+        cylinder = train["flags"] & 2
+        self.rest = float(self.pick(400, 450.5, 500, 550, self.between(400, 550)))
+        if cylinder:
+            self.rest = 500 - 75 * self.between(0, train["p_full"]) / train["p_full"]
+        setback = self.between(3, 29) if self.chance(0.35) else None
+        reports = 0
+        while unit.test is not None and unit.test[0] != "set" and reports != most:
+            phase, _, count = unit.test
+            drop = 0
+            if phase == "settling":
+                drop = self.pick(0, 0, 0, 5, 19.5) if cylinder else self.pick(0, 0, 0, 5, -5, 20, -20)
+            if phase == "settling" and count == setback:
+                setback, drop = None, self.pick(20.5, -20.5, 150, 500)
+            self.odometer(v=0, moved=self.pick(0, 0, 0, 7), half=self.half_for(self.test_pressure() - drop))
+            reports += 1
+
+    def brake_for_test(self, at):
+        """The reports after the one that settles it, with a drop of 60 kPa at the one of this count, or never."""
+        unit = self.unit
+        while unit.test is not None:
+            enough = unit.test[2] + 1 == at
+            drop = self.pick(60, 60, 60.5, 75, 150) if enough else self.pick(0, 30, 59, 59.5)
+            half = self.half_for(self.test_pressure() - drop)
+            if self.chance(0.05):
+                half = self.pick(-100, 1910)
+            self.odometer(v=0, moved=self.pick(0, 0, 0, 7), half=half, press=self.pick(0, 0, 0, LOSS, TEXT))
 
     # -- things that happen in DA
 
@@ -1329,6 +1439,8 @@ class Trips:
         self.start()
         if self.chance(0.3):
             self.disturb()
+        if not self.unit.by_01:
+            self.brake_tests()
         self.reach_da()
         acts = [self.overspeed, self.overspeed, self.boundaries, self.boundaries, self.boundaries,
                 self.approach, self.approach, self.halka_while_braking, self.only_service_on_a_curve,
@@ -1379,15 +1491,18 @@ class Trips:
     def afterwards(self):
         """What only refusals and repeats answer: in FA, or after the last number."""
         unit = self.unit
+        choices = [lambda: self.emit(unit.last[0], unit.number, unit.last[5:]),
+                   lambda: self.emit(ODOMETER, unit.number + 1,
+                                     struct.pack(">HHhhB", 0, 0, 0, 1000, LOSS)),
+                   lambda: self.emit(PROCEED, unit.number + 1),
+                   lambda: self.emit(STATE, unit.number, bytes([FA])),
+                   lambda: self.emit(STATE, unit.number + 2, bytes([CS])),
+                   lambda: self.emit(START, unit.number, self.bad_start()),
+                   lambda: self.emit(STATE, unit.number + 1, bytes([9]))]
+        if not unit.by_01:
+            choices.append(lambda: self.emit(TEST_BRAKES, unit.number + 1))
         for _ in range(self.between(1, 4)):
-            self.pick(lambda: self.emit(unit.last[0], unit.number, unit.last[5:]),
-                      lambda: self.emit(ODOMETER, unit.number + 1,
-                                        struct.pack(">HHhhB", 0, 0, 0, 1000, LOSS)),
-                      lambda: self.emit(PROCEED, unit.number + 1),
-                      lambda: self.emit(STATE, unit.number, bytes([FA])),
-                      lambda: self.emit(STATE, unit.number + 2, bytes([CS])),
-                      lambda: self.emit(START, unit.number, self.bad_start()),
-                      lambda: self.emit(STATE, unit.number + 1, bytes([9])))()
+            self.pick(*choices)()
 
     def write(self):
         try:

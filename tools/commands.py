@@ -1,4 +1,4 @@
-"""The commands, answers and report of document 01 in words: the one table that the tools share.
+"""The commands, answers and report of documents 01 and 02 in words: the one table that the tools share.
 
 A new command, operand, flag, answer or report field is a new row here. `tests/tools` compares the rows with the code,
 with docs/COMMANDS.md and with the recorded runs.
@@ -120,7 +120,7 @@ KINDS = {"target": 0, "stop": 1}
 STOPS = {"aimed-at": 0, "unexpected": 1, "landslide": 2}
 IDENT = Operand("id", "id", 1, ((0, 254),), bare=True, read="{}")
 
-FLAGS = Operand("flags", "flags", 1, ((0, 3),), default=0, bits=("soft-braking", "cylinder"), read="{}", quiet=0)
+FLAGS = Operand("flags", "flags", 1, ((0, 7),), default=0, bits=("soft-braking", "cylinder", "no-etcs-test"), read="{}", quiet=0)
 BUTTONS = Operand("buttons", "buttons", 1, ((0, 15),), default=0, bits=("loss", "text", "halka", "neutral"), read="{}",
                   quiet=0)
 
@@ -209,6 +209,7 @@ COMMANDS = (
     )),
     Command(0x31, "proceed signal", "proceed", ()),
     Command(0x32, "balise error", "balise error", ()),
+    Command(0x40, "brake test", "brake test", ()),
 )
 
 BY_CODE = {command.code: command for command in COMMANDS}
@@ -234,6 +235,8 @@ ANSWERS = {
     11: "there is no reference pressure yet",
     12: "the id is not held, or its section is already ending",
     13: "all 16 places are held",
+    14: "a brake test is taken in DE only",
+    15: "a brake test runs already",
 }
 
 
@@ -285,7 +288,8 @@ REPORT = (
     Field("interval", 1, words=("none", "A", "Ab", "Bf", "B", "C", "D", "E", "F"), empty=0),
     Field("bar", 1, words=("no bar", "light grey bar", "yellow bar"), empty=0),
     Field("mode", 1, words=("normal", "pre-indication", "indication", "warning", "intervention"), empty=0),
-    Field("messages", 1, bits=("DRIFTBROMSFEL", "NÖDBROMSFEL", "TRYCKGIVARFEL"), empty=0),
+    Field("messages", 1, bits=("DRIFTBROMSFEL", "NÖDBROMSFEL", "TRYCKGIVARFEL", "brake test runs", "last brake test passed",
+                               "last brake test failed"), empty=0),
     Field("release offered", 1, bits=("LOSS", "text"), empty=0),
     Field("next change", 4, empty=0xFFFFFFFF),
 )

@@ -21,6 +21,8 @@ def order_text(report):
     """'FULL by curve (bit 2)'"""
     order = FIELDS["order"].text(report["order"])
     causes = " and ".join(f"{name} (bit {bit})" for bit, name in FIELDS["causes"].set_bits(report["causes"]))
+    if report["order"] and not causes and FIELDS["state"].text(report["state"]) == "DE":
+        causes = "the brake test"
     return f"{order} by {causes}" if causes else order
 
 
