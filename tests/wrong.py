@@ -16,8 +16,8 @@ import shutil
 import subprocess
 import tempfile
 
-RULES = ['Numbers', 'Operands', 'Places', 'Speeds', 'Table', 'Checks', 'Releases', 'Odometer', 'Shows', 'Reports', 'Commands',
-         'Refusals', 'Calls']
+RULES = ['Numbers', 'Operands', 'Places', 'Speeds', 'Hold', 'Table', 'Checks', 'Releases', 'BrakeTest', 'Odometer', 'Shows', 'Reports',
+         'Commands', 'Refusals', 'Calls']
 SWAPS = {'ltb': ['leb'], 'leb': ['ltb'], 'lt': ['le'], 'le': ['lt'], '&&': ['||'], '||': ['&&'], 'true': ['false'], 'false': ['true'],
          'min': ['Prim.Native.Nat.max'], 'not': ['']}
 TOKEN = re.compile(r'0x[0-9A-F]+\b|\b\d+\b|\b(?:ltb|leb|lt|le|true|false|min|not)\b|&&|\|\||\b[A-Z]\w*\.[A-Z]\w*\b| \.[a-z]\w*\b')
