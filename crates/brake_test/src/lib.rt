@@ -143,10 +143,11 @@ fn stage_of(phase: Phase) -> Stage
 fn has_dropped(steady: f32, pressure: f32) -> bool
     ensures { λ r. ⌜ r ≡ hasDropped steady pressure ⌝ }
 {
-    60.0 <= pressure::drop_of(Pressures {
-        pressure,
-        reference: steady,
-    })
+    60.0
+        <= pressure::drop_of(Pressures {
+            pressure,
+            reference: steady,
+        })
 }
 
 // A test that brakes, after one more report: it passes at a drop, and fails at the limit.
@@ -170,7 +171,13 @@ fn braked_on(limit: u8, dropped: bool, steady: f32, reports: u8, result: Verdict
 }
 
 // After a report that does not fail it at once.
-fn gone_on(train: Train, feedback: Measured, external: i16, result: Verdict, stage: Stage) -> BrakeTest
+fn gone_on(
+    train: Train,
+    feedback: Measured,
+    external: i16,
+    result: Verdict,
+    stage: Stage,
+) -> BrakeTest
     ensures { λ r. ⌜ r ≡ goneOn train feedback external result stage ⌝ }
 {
     match stage {
