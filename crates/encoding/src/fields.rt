@@ -1,6 +1,6 @@
 // The operands of the commands and their ranges. Each is read at its place after the code and the number.
 ghost use mathlib.Core.Path.{_≡_};
-ghost use Rattle.rules.specs.Operands.{bitOf, within, feedOf, trainOf, trainInRange, startInRange, readingOf, odometerInRange, kindOf, speedInRange, gradientOf, curveOf, curveInRange, newCurveInRange, sectionOf, sectionInRange, inRange};
+ghost use Rattle.rules.specs.Operands.{bitOf, within, feedOf, extraOf, trainOf, trainInRange, startInRange, readingOf, odometerInRange, kindOf, speedInRange, gradientOf, curveOf, curveInRange, newCurveInRange, sectionOf, sectionInRange, inRange};
 use curve::Curve;
 use curve::Gradient;
 use curve::Kind;
@@ -34,6 +34,13 @@ fn feed_of(cylinder: bool) -> Feed
     if cylinder { Feed::Cylinder } else { Feed::Pipe }
 }
 
+// What the leads add to T_B where no approved ETCS test exists.
+fn extra_of(untested: bool) -> u8
+    ensures { λ r. ⌜ r ≡ extraOf untested ⌝ }
+{
+    if untested { 50 } else { 0 }
+}
+
 pub fn train_of(s: &[u8]) -> Train
     ensures { λ r. ⌜ r ≡ trainOf (now (s .entry)) ⌝ }
 {
@@ -43,6 +50,7 @@ pub fn train_of(s: &[u8]) -> Train
         c: byte_at(s, 10),
         permitted: byte_at(s, 11),
         bf: byte_at(s, 12),
+        extra: extra_of(bit_of(2, flags)),
     };
     Train {
         softly: bit_of(0, flags),
@@ -82,7 +90,7 @@ fn train_in_range(train: Train) -> bool
 fn start_in_range(s: &[u8]) -> bool
     ensures { λ r. ⌜ r ≡ startInRange (now (s .entry)) ⌝ }
 {
-    (byte_at(s, 0) <= 3) & train_in_range(train_of(s))
+    (byte_at(s, 0) <= 7) & train_in_range(train_of(s))
 }
 
 // ---- 10 odometer
@@ -205,5 +213,6 @@ pub fn in_range(code: Code, s: &[u8]) -> bool
         Code::StopPassed => byte_at(s, 0) <= 2,
         Code::Proceed => true,
         Code::BaliseError => true,
+        Code::TestBrakes => true,
     }
 }

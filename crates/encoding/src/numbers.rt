@@ -28,6 +28,8 @@ pub fn answer_number(answer: Answer) -> u8
         Answer::NoReference => 11,
         Answer::NotHeld => 12,
         Answer::AllHeld => 13,
+        Answer::OutsideDE => 14,
+        Answer::TestRunning => 15,
     }
 }
 
@@ -58,6 +60,7 @@ pub fn code_number(code: Code) -> u8
         Code::StopPassed => 0x30,
         Code::Proceed => 0x31,
         Code::BaliseError => 0x32,
+        Code::TestBrakes => 0x40,
     }
 }
 
@@ -75,7 +78,8 @@ pub fn code_of(byte: u8) -> Code
         0x23 => Code::EndSection,
         0x30 => Code::StopPassed,
         0x31 => Code::Proceed,
-        _ => Code::BaliseError,
+        0x32 => Code::BaliseError,
+        _ => Code::TestBrakes,
     }
 }
 

@@ -1,4 +1,4 @@
-// The answer to every command: the refusals of 01 in their order, and the repeat.
+// The answer to every command: the refusals of 01 and of 02, F-3, in their order, and the repeat.
 //
 // No public function has a `requires`: each is defined at every value of its parameters.
 ghost use mathlib.Core.Path.{_≡_};
@@ -15,6 +15,7 @@ ghost use Rattle.rules.specs.Places.{holdsCurve, allCurvesHeld, holdsSection, s
 ghost use Rattle.rules.specs.Operands.{codeByte, numberOf};
 ghost use Rattle.rules.specs.Commands.{padded};
 ghost use Rattle.rules.specs.Refusals.{isPath, isAllowed, ordersDA, rule, firstOf, rulesFor, answerFor, answerOf};
+use brake_test::is_running;
 use encoding::fields::in_range;
 use encoding::numbers::code_of;
 use encoding::numbers::is_code;
@@ -94,6 +95,7 @@ fn is_allowed(state: State, code: Code, s: &[u8]) -> bool
         Code::StopPassed => da,
         Code::Proceed => moving,
         Code::BaliseError => da,
+        Code::TestBrakes => true,
     }
 }
 
@@ -145,11 +147,41 @@ struct Tests {
     unset: bool,
     absent: bool,
     full: bool,
+    elsewhere: bool,
+    running: bool,
 }
 
-// The first that applies, in the order of 01.
+// The first of 9 to 15 that applies.
+fn later_of(t: Tests) -> Answer
+    ensures { λ r. ⌜ r ≡ firstOf (rule (t .outside) Answer.OutOfRange ∷ rule (t .forbidden) Answer.NotAllowed ∷ rule (t .unset) Answer.NoReference ∷ rule (t .absent) Answer.NotHeld ∷ rule (t .full) Answer.AllHeld ∷ rule (t .elsewhere) Answer.OutsideDE ∷ rule (t .running) Answer.TestRunning ∷ []) ⌝ }
+{
+    if t.outside {
+        return Answer::OutOfRange;
+    }
+    if t.forbidden {
+        return Answer::NotAllowed;
+    }
+    if t.unset {
+        return Answer::NoReference;
+    }
+    if t.absent {
+        return Answer::NotHeld;
+    }
+    if t.full {
+        return Answer::AllHeld;
+    }
+    if t.elsewhere {
+        return Answer::OutsideDE;
+    }
+    if t.running {
+        return Answer::TestRunning;
+    }
+    Answer::Accepted
+}
+
+// The first that applies: 5 to 8, the repeat, and 9 to 15.
 fn first_of(t: Tests) -> Answer
-    ensures { λ r. ⌜ r ≡ firstOf (rule (t .unstarted) Answer.NotStarted ∷ rule (t .zero) Answer.ZeroNumber ∷ rule (t .misnumbered) Answer.WrongNumber ∷ rule (t .failed) Answer.Failed ∷ rule (t .again) Answer.Again ∷ rule (t .outside) Answer.OutOfRange ∷ rule (t .forbidden) Answer.NotAllowed ∷ rule (t .unset) Answer.NoReference ∷ rule (t .absent) Answer.NotHeld ∷ rule (t .full) Answer.AllHeld ∷ []) ⌝ }
+    ensures { λ r. ⌜ r ≡ firstOf (rule (t .unstarted) Answer.NotStarted ∷ rule (t .zero) Answer.ZeroNumber ∷ rule (t .misnumbered) Answer.WrongNumber ∷ rule (t .failed) Answer.Failed ∷ rule (t .again) Answer.Again ∷ rule (t .outside) Answer.OutOfRange ∷ rule (t .forbidden) Answer.NotAllowed ∷ rule (t .unset) Answer.NoReference ∷ rule (t .absent) Answer.NotHeld ∷ rule (t .full) Answer.AllHeld ∷ rule (t .elsewhere) Answer.OutsideDE ∷ rule (t .running) Answer.TestRunning ∷ []) ⌝ }
 {
     if t.unstarted {
         return Answer::NotStarted;
@@ -166,22 +198,7 @@ fn first_of(t: Tests) -> Answer
     if t.again {
         return Answer::Again;
     }
-    if t.outside {
-        return Answer::OutOfRange;
-    }
-    if t.forbidden {
-        return Answer::NotAllowed;
-    }
-    if t.unset {
-        return Answer::NoReference;
-    }
-    if t.absent {
-        return Answer::NotHeld;
-    }
-    if t.full {
-        return Answer::AllHeld;
-    }
-    Answer::Accepted
+    later_of(t)
 }
 
 // The answer to a command that passes 1 to 4, with its operands.
@@ -195,11 +212,14 @@ fn judge(stm: Stm, command: &[u8], s: &[u8]) -> Answer
     let last = before.bytes;
     let feedback = stm.feedback;
     let phase = feedback.phase;
+    let test = stm.test;
+    let stage = test.stage;
     let track = stm.track;
     let code = code_of(byte_at(command, 0));
     let id = byte_at(s, 0);
     let number = be32(command, 1);
     let start = is_code(Code::Start, code);
+    let tests = is_code(Code::TestBrakes, code);
     let again = started & is_last(last, command);
     first_of(Tests {
         unstarted: !started & !start,
@@ -212,6 +232,8 @@ fn judge(stm: Stm, command: &[u8], s: &[u8]) -> Answer
         unset: orders_da(code, s) & !pressure::has_reference(phase),
         absent: ends_nothing(track, code, id),
         full: finds_no_place(track, code, id),
+        elsewhere: tests & !is_state(State::DE, state),
+        running: tests & is_running(stage),
     })
 }
 

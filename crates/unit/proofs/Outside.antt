@@ -5,19 +5,20 @@ use mathlib.Core.Bool.{true, false, cond}
 use mathlib.Core.List.{[], _∷_}
 use Rattle.curve.specs.Ground.{never}
 use Rattle.rules.specs.declared.State.{State}
+use Rattle.rules.specs.declared.Stage.{Stage}
 use Rattle.rules.specs.declared.Stm.{Stm}
 use Rattle.rules.specs.Numbers.{stateNumber, isState}
 use Rattle.rules.specs.Speeds.{judgedNow, vmaxOf}
 use Rattle.rules.specs.Odometer.{seenWith, seenOf, seenIn}
-use Rattle.rules.specs.Reports.{messagesOf, fields, reportInDA, reportOutside, reportFor, reportOf}
+use Rattle.rules.specs.Reports.{messagesOf, fields, reportInDA, reportOutside, testOrder, reportFor, reportOf}
 
--- "order is 0 (FA: 3)"
-abbrev pub orderOutside : State → ℕ
-orderOutside state = cond (isState State.FA state) 3 0
+-- "order is 0 (FA: 3)"; in DE the test's
+abbrev pub orderOutside : State → Stage → ℕ
+orderOutside state stage = cond (isState State.FA state) 3 (cond (isState State.DE state) (testOrder stage) 0)
 
 -- the five states by whether they are DA
 by-state : (state : State) (stm : Stm)
-    → reportFor state stm ≡ cond (isState State.DA state) (reportInDA stm) (reportOutside state (orderOutside state) stm)
+    → reportFor state stm ≡ cond (isState State.DA state) (reportInDA stm) (reportOutside state (orderOutside state (stm .test .stage)) stm)
 by-state State.DE stm = refl
 by-state State.CS stm = refl
 by-state State.HS stm = refl
@@ -40,7 +41,7 @@ module _ (stm : Stm) where
   -- outside DA
   pub report-elsewhere : isState State.DA (stm .control .state) ≡ false
       → reportOf stm
-      ≡ fields (stateNumber (stm .control .state)) (orderOutside (stm .control .state)) 0 0 0 (255 ∷ 0 ∷ 0 ∷ 0 ∷ [])
-      (messagesOf (stm .brakes) (stm .feedback)) 0 never
+      ≡ fields (stateNumber (stm .control .state)) (orderOutside (stm .control .state) (stm .test .stage)) 0 0 0 (255 ∷ 0 ∷ 0 ∷ 0 ∷ [])
+      (messagesOf (stm .brakes) (stm .feedback) (stm .test)) 0 never
   unfolding reportOf reportOutside
   report-elsewhere e = by-state (stm .control .state) stm ∙ rw e

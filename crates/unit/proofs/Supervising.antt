@@ -123,6 +123,7 @@ stmBy r stm state brakes = record {
   track = trackBy r stm;
   brakes = brakes;
   feedback = pressedBy r stm;
+  test = stm .test;
   kept = keptOf r;
   last = stm .last;
 }
@@ -230,6 +231,7 @@ lastOf {r} {stm} s = record {
   track = s .track;
   brakes = s .left;
   feedback = s .measured;
+  test = stm .test;
   kept = s .kept;
   last = stm .last;
 }

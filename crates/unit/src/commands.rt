@@ -4,10 +4,14 @@ ghost use Rattle.rules.specs.Numbers.{codeOf};
 ghost use Rattle.rules.specs.Operands.{codeByte, curveOf, sectionOf};
 ghost use Rattle.wire.specs.Numbers.{byteAt};
 ghost use Rattle.rules.specs.Places.{withCurves, withSections, givenCurve, endedCurve, givenSection, endedSection};
+ghost use Rattle.rules.specs.BrakeTest.{leftTest};
+ghost use Rattle.rules.specs.Odometer.{withTest};
 ghost use Rattle.rules.specs.Commands.{entered, stopped, carriedOut, remembered};
 use crate::odometer::take_reading;
 use crate::report::remember;
 use crate::state::fresh_with;
+use brake_test::begun_test;
+use brake_test::left_test;
 use brakes::release::brakes_by;
 use brakes::release::fresh_brakes;
 use encoding::fields::curve_of;
@@ -47,6 +51,16 @@ fn enter(state: State, stm: Stm) -> Stm
         next.track = fresh_track();
         next.brakes = fresh_brakes();
     }
+    next
+}
+
+// Command 02: a test that runs ends with DE.
+fn change_state(state: State, stm: Stm) -> Stm
+    ensures { λ r. ⌜ r ≡ withTest (entered state stm) (leftTest (stm .test)) ⌝ }
+{
+    let test = stm.test;
+    let mut next = enter(state, stm);
+    next.test = left_test(test);
     next
 }
 
@@ -99,7 +113,7 @@ pub fn accept(command: &[u8], s: &[u8], stm: Stm) -> Stm
     let brakes = stm.brakes;
     match code_of(byte_at(command, 0)) {
         Code::Start => remember(command, fresh_with(true, train_of(s))),
-        Code::ChangeState => remember(command, enter(state_of(byte_at(s, 0)), stm)),
+        Code::ChangeState => remember(command, change_state(state_of(byte_at(s, 0)), stm)),
         Code::Odometer => take_reading(command, reading_of(s), stm),
         Code::NewCurve => {
             next.track = new_curve(s, track);
@@ -124,6 +138,11 @@ pub fn accept(command: &[u8], s: &[u8], stm: Stm) -> Stm
         }
         Code::BaliseError => {
             next.brakes = brakes_by(Code::BaliseError, 0, stm.kept.speed, brakes);
+            remember(command, next)
+        }
+        Code::TestBrakes => {
+            let test = stm.test;
+            next.test = begun_test(test);
             remember(command, next)
         }
     }

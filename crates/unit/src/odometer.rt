@@ -1,16 +1,18 @@
-// An odometer report: in DA it moves, measures, adds causes, then releases; in HS it moves and measures; in DE
-// and CS it only measures.
+// An odometer report: in DA it moves, measures, adds causes, then releases; in HS it moves and measures; in CS it
+// only measures; in DE it measures, and takes a brake test on.
 ghost use mathlib.Core.Path.{_≡_};
 ghost use mathlib.Core.Bool.{false, cond, _||_};
 ghost use Rattle.pressure.specs.Report.{reportedTo};
 ghost use Rattle.rules.specs.declared.State.{State};
 ghost use Rattle.rules.specs.Numbers.{isState};
 ghost use Rattle.rules.specs.Releases.{releasedBrakes};
-ghost use Rattle.rules.specs.Odometer.{moves, keptOf, measures, notes, adds, releases, isFresh, reportedIn};
+ghost use Rattle.rules.specs.Odometer.{withExtra, moves, keptOf, measures, notes, adds, releases, isFresh, tests, reportedIn};
 ghost use Rattle.rules.specs.Commands.{remembered};
 use crate::report::remember;
 use crate::report::report_outside;
 use crate::report::report_with;
+use brake_test::extra_left;
+use brake_test::tested_at;
 use brakes::check::is_drop;
 use brakes::release::added_brakes;
 use brakes::release::noted_brakes;
@@ -70,7 +72,7 @@ fn feedback_after(train: Train, before: Measured, r: Reading) -> Measured
     pressure::report(phase, pressures, feed, train.pressure, r.external)
 }
 
-// Outside DA: measures, and keeps the figures and buttons.
+// In HS and CS: measures, and keeps the figures and buttons.
 fn measure(command: &[u8], r: Reading, stm: Stm) -> Stm
     requires { ⌜ isState State.DA (stm .control .state) ≡ false ⌝ }
     ensures { λ x. ⌜ x ≡ remembered (now (command .entry)) (measures r stm) ⌝ }
@@ -80,16 +82,46 @@ fn measure(command: &[u8], r: Reading, stm: Stm) -> Stm
     let state = control.state;
     let train = stm.train;
     let brakes = stm.brakes;
+    let test = stm.test;
     let before = stm.feedback;
     let feedback = feedback_after(train, before, r);
     next.feedback = feedback;
     next.kept = kept_of(r);
     let last = Last {
         bytes: padded(command),
-        report: report_outside(state, brakes, feedback),
+        report: report_outside(state, brakes, feedback, test),
     };
     next.last = last;
     next
+}
+
+// ---- in DE
+
+// The train with another extra in its leads.
+fn with_extra(train: Train, extra: u8) -> Train
+    ensures { λ x. ⌜ x ≡ withExtra train extra ⌝ }
+{
+    let mut next = train;
+    next.times.extra = extra;
+    next
+}
+
+// In DE: measures, then takes a brake test on; once it has passed, the extra goes.
+fn test_brakes(command: &[u8], r: Reading, stm: Stm) -> Stm
+    ensures { λ x. ⌜ x ≡ remembered (now (command .entry)) (tests r (measures r stm)) ⌝ }
+{
+    let mut next = stm;
+    let train = stm.train;
+    let before = stm.feedback;
+    let begun = stm.test;
+    let feedback = feedback_after(train, before, r);
+    let test = tested_at(train, feedback, r, begun);
+    let result = test.result;
+    next.train = with_extra(train, extra_left(result, train.times.extra));
+    next.feedback = feedback;
+    next.test = test;
+    next.kept = kept_of(r);
+    remember(command, next)
 }
 
 // ---- in DA
@@ -173,7 +205,8 @@ pub fn take_reading(command: &[u8], r: Reading, stm: Stm) -> Stm
     let state = control.state;
     let moved = moved_in(state, r, stm);
     match state {
-        State::DE | State::CS | State::HS => measure(command, r, moved),
+        State::DE => test_brakes(command, r, moved),
+        State::CS | State::HS => measure(command, r, moved),
         State::DA => supervise(command, r, moved),
         State::FA => remember(command, moved),
     }

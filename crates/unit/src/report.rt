@@ -11,7 +11,11 @@ ghost use Rattle.rules.specs.Table.{orderOf};
 ghost use Rattle.rules.specs.Odometer.{isInsufficient, seenIn};
 ghost use Rattle.rules.specs.Commands.{remembered};
 ghost use Rattle.curve.specs.Ground.{never};
-ghost use Rattle.rules.specs.Reports.{causesNumber, messagesOf, offeredOf, isOver, shownFields, changeOf, fields, reportInDA, reportOf};
+ghost use Rattle.rules.specs.Reports.{causesNumber, messagesOf, offeredOf, isOver, shownFields, changeOf, fields, reportInDA, testOrder, reportOf};
+use brake_test::has_failed;
+use brake_test::has_passed;
+use brake_test::is_running;
+use brake_test::is_test_braking;
 use brakes::causes::order_of;
 use brakes::causes::would_drop;
 use brakes::seeing::is_insufficient;
@@ -26,12 +30,15 @@ use encoding::numbers::state_number;
 use places::PLACES;
 use pressure::Measured;
 use refusals::padded;
+use rules::BrakeTest;
 use rules::Brakes;
 use rules::Candidate;
 use rules::Causes;
 use rules::Kept;
 use rules::Last;
+use rules::Order;
 use rules::Seen;
+use rules::Stage;
 use rules::State;
 use rules::Stm;
 use rules::Train;
@@ -82,10 +89,17 @@ fn causes_number(c: Causes) -> u16
         + value(c.service, 2048)
 }
 
-fn messages_of(b: Brakes, feedback: Measured) -> u8
-    ensures { λ r. ⌜ r ≡ messagesOf b feedback ⌝ }
+fn messages_of(b: Brakes, feedback: Measured, test: BrakeTest) -> u8
+    ensures { λ r. ⌜ r ≡ messagesOf b feedback test ⌝ }
 {
-    (value(b.drift, 1) + value(b.failed, 2) + value(feedback.fault, 4)) as u8
+    let stage = test.stage;
+    let result = test.result;
+    (value(b.drift, 1)
+        + value(b.failed, 2)
+        + value(feedback.fault, 4)
+        + value(is_running(stage), 8)
+        + value(has_passed(result), 16)
+        + value(has_failed(result), 32)) as u8
 }
 
 fn offered_of(s: Seen, c: Causes) -> u8
@@ -135,9 +149,10 @@ fn report_in_da(
     curves: [Curve; PLACES],
     brakes: Brakes,
     feedback: Measured,
+    test: BrakeTest,
     kept: Kept,
 ) -> [u8; REPORT_LENGTH]
-    ensures { λ r. ⌜ r ≡ fields (stateNumber State.DA) (orderNumber (orderOf (train .softly) (brakes .causes))) (causesNumber (brakes .causes)) (permittedSpeed vmax judged) vmax (shownFields (isOver train kept (chosen curves judged)) (isInsufficient train feedback) (chosen curves judged)) (messagesOf brakes feedback) (offeredOf seen (brakes .causes)) (changeOf train kept (chosen curves judged)) ⌝ }
+    ensures { λ r. ⌜ r ≡ fields (stateNumber State.DA) (orderNumber (orderOf (train .softly) (brakes .causes))) (causesNumber (brakes .causes)) (permittedSpeed vmax judged) vmax (shownFields (isOver train kept (chosen curves judged)) (isInsufficient train feedback) (chosen curves judged)) (messagesOf brakes feedback test) (offeredOf seen (brakes .causes)) (changeOf train kept (chosen curves judged)) ⌝ }
 {
     let causes = brakes.causes;
     let number = causes_number(causes);
@@ -164,7 +179,7 @@ fn report_in_da(
         shown.interval,
         shown.bar,
         shown.mode,
-        messages_of(brakes, feedback),
+        messages_of(brakes, feedback, test),
         offered_of(seen, causes),
         high(first),
         low(first),
@@ -173,20 +188,43 @@ fn report_in_da(
     ]
 }
 
-// The order outside DA: emergency in FA, and none.
-fn order_outside(state: State) -> u8
-    ensures { λ r. ⌜ r ≡ cond (isState State.FA state) 3 0 ⌝ }
+// The order of a test: full while it brakes.
+fn test_order(stage: Stage) -> u8
+    ensures { λ r. ⌜ r ≡ testOrder stage ⌝ }
 {
-    if is_state(State::FA, state) { 3 } else { 0 }
+    if is_test_braking(stage) {
+        order_number(Order::Full)
+    } else {
+        order_number(Order::Nothing)
+    }
+}
+
+// The order outside DA: emergency in FA, the test's in DE, and none.
+fn order_outside(state: State, stage: Stage) -> u8
+    ensures { λ r. ⌜ r ≡ cond (isState State.FA state) 3 (cond (isState State.DE state) (testOrder stage) 0) ⌝ }
+{
+    if is_state(State::FA, state) {
+        return 3;
+    }
+    if is_state(State::DE, state) {
+        return test_order(stage);
+    }
+    0
 }
 
 // Outside DA.
-pub fn report_outside(state: State, brakes: Brakes, feedback: Measured) -> [u8; REPORT_LENGTH]
-    ensures { λ r. ⌜ r ≡ fields (stateNumber state) (cond (isState State.FA state) 3 0) 0 0 0 (255 ∷ 0 ∷ 0 ∷ 0 ∷ []) (messagesOf brakes feedback) 0 never ⌝ }
+pub fn report_outside(
+    state: State,
+    brakes: Brakes,
+    feedback: Measured,
+    test: BrakeTest,
+) -> [u8; REPORT_LENGTH]
+    ensures { λ r. ⌜ r ≡ fields (stateNumber state) (cond (isState State.FA state) 3 (cond (isState State.DE state) (testOrder (test .stage)) 0)) 0 0 0 (255 ∷ 0 ∷ 0 ∷ 0 ∷ []) (messagesOf brakes feedback test) 0 never ⌝ }
 {
+    let stage = test.stage;
     [
         state_number(state),
-        order_outside(state),
+        order_outside(state, stage),
         0,
         0,
         0,
@@ -197,7 +235,7 @@ pub fn report_outside(state: State, brakes: Brakes, feedback: Measured) -> [u8; 
         0,
         0,
         0,
-        messages_of(brakes, feedback),
+        messages_of(brakes, feedback, test),
         0,
         255,
         255,
@@ -217,11 +255,22 @@ fn report_now(stm: Stm) -> [u8; REPORT_LENGTH]
     let since = brakes.since;
     let roll = brakes.roll;
     let feedback = stm.feedback;
+    let test = stm.test;
     let kept = stm.kept;
     let judged = judge_now(train, kept, curves);
     let vmax = vmax_of(train, track);
     let seen = seen_with(judged, vmax, train, feedback, kept, since, roll);
-    report_in_da(judged, vmax, seen, train, curves, brakes, feedback, kept)
+    report_in_da(
+        judged,
+        vmax,
+        seen,
+        train,
+        curves,
+        brakes,
+        feedback,
+        test,
+        kept,
+    )
 }
 
 // The report of a state.
@@ -235,7 +284,8 @@ fn report_of(stm: Stm) -> [u8; REPORT_LENGTH]
     }
     let brakes = stm.brakes;
     let feedback = stm.feedback;
-    report_outside(state, brakes, feedback)
+    let test = stm.test;
+    report_outside(state, brakes, feedback, test)
 }
 
 // The report of a state of which it is known already what its curves say, its VMAX and what is seen.
@@ -256,8 +306,19 @@ pub(crate) fn report_with(
         let curves = track.curves;
         let brakes = stm.brakes;
         let feedback = stm.feedback;
+        let test = stm.test;
         let kept = stm.kept;
-        return report_in_da(judged, vmax, seen, train, curves, brakes, feedback, kept);
+        return report_in_da(
+            judged,
+            vmax,
+            seen,
+            train,
+            curves,
+            brakes,
+            feedback,
+            test,
+            kept,
+        );
     }
     report_of(stm)
 }

@@ -1,6 +1,7 @@
 // The fresh state.
 ghost use mathlib.Core.Path.{_≡_};
 ghost use Rattle.rules.specs.Commands.{freshKept, freshLast, noTrain, freshWith, freshStm};
+use brake_test::fresh_test;
 use brakes::release::fresh_brakes;
 use curve::Times;
 use pressure::Feed;
@@ -50,6 +51,7 @@ fn no_train() -> Train
             c: 0,
             permitted: 0,
             bf: 0,
+            extra: 0,
         },
         margin: 0,
         emergency: 0,
@@ -72,6 +74,7 @@ pub fn fresh_with(started: bool, train: Train) -> Stm
         track: fresh_track(),
         brakes: fresh_brakes(),
         feedback: pressure::fresh(),
+        test: fresh_test(),
         kept: fresh_kept(),
         last: fresh_last(),
     }

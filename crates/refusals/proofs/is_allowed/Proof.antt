@@ -48,6 +48,9 @@ enum-told-9 c = search needs
 enum-told-10 : tie.Need-enum-told-10
 enum-told-10 c = search needs
 
+enum-told-11 : tie.Need-enum-told-11
+enum-told-11 c = search needs
+
 returns : tie.Need-returns
 returns c = rw (c .enum-told .given .1)
 
@@ -80,6 +83,9 @@ returns-9 c = rw (c .enum-told9 .given .1, c .before .before .is-state2 .ensures
 returns-10 : tie.Need-returns-10
 returns-10 c = rw (c .enum-told10 .given .1, c .before .before .before .is-state .ensures)
 
+returns-11 : tie.Need-returns-11
+returns-11 c = rw (c .enum-told11 .given .1)
+
 pub is-allowed-spec : {M : Type 1} → statement M
 is-allowed-spec =
     tie.close
@@ -99,6 +105,7 @@ is-allowed-spec =
     enum-told-8
     enum-told-9
     enum-told-10
+    enum-told-11
     returns
     returns-2
     returns-3
@@ -108,4 +115,5 @@ is-allowed-spec =
     returns-7
     returns-8
     returns-9
-    returns-10)
+    returns-10
+    returns-11)

@@ -12,8 +12,9 @@ use Rattle.pressure.specs.Phases.{isSet}
 use Rattle.rules.specs.Numbers.{codeOf, isCode, isState}
 use Rattle.rules.specs.Operands.{codeByte, numberOf, inRange}
 use Rattle.rules.specs.Places.{holdsCurve, allCurvesHeld, holdsSection, standsSection, allSectionsHeld}
+use Rattle.rules.specs.BrakeTest.{isRunning}
 use Rattle.rules.specs.Commands.{padded}
-use Rattle.rules.specs.Refusals.{isRepeat, isNext, isAllowed, ordersDA, endsNothing, findsNoPlace, rule, firstOf, rulesFor}
+use Rattle.rules.specs.Refusals.{isRepeat, isNext, isAllowed, ordersDA, endsNothing, findsNoPlace, testsOutside, testsTwice, rule, firstOf, rulesFor}
 use Rattle.rules.specs.declared.Answer.{Answer}
 use Rattle.rules.specs.declared.Code.{Code}
 use Rattle.rules.specs.declared.State.{State}
@@ -23,12 +24,13 @@ use Rattle.refusals.proofs.judge.Tie as tie
 
 -- the first rule that applies, by the values of the tests
 judged : (stm : Stm) (command s : List ℕ) {byte : ℕ} {code : Code} {id number : ℕ}
-    {start last next failed range allowed da set absent full : Bool} {answer : Answer}
+    {start tests last next failed range allowed da set absent full de running : Bool} {answer : Answer}
     → byte ≡ byteAt command 0
     → code ≡ codeOf byte
     → id ≡ byteAt s 0
     → number ≡ numberOf command
     → start ≡ isCode Code.Start code
+    → tests ≡ isCode Code.TestBrakes code
     → last ≡ sameBytes (stm .last .bytes) (padded longest command)
     → next ≡ eqb number (numberOf (stm .last .bytes) + 1)
     → failed ≡ isState State.FA (stm .control .state)
@@ -40,6 +42,8 @@ judged : (stm : Stm) (command s : List ℕ) {byte : ℕ} {code : Code} {id numbe
     || isCode Code.EndSection code && not (standsSection id (stm .track .sections)))
     → full ≡ (isCode Code.NewCurve code && not (holdsCurve id (stm .track .curves)) && allCurvesHeld (stm .track .curves)
     || isCode Code.NewSection code && not (holdsSection id (stm .track .sections)) && allSectionsHeld (stm .track .sections))
+    → de ≡ isState State.DE (stm .control .state)
+    → running ≡ isRunning (stm .test .stage)
     → answer ≡ firstOf
     (rule (not (stm .control .started) && not start) Answer.NotStarted
     ∷ rule (eqb number 0) Answer.ZeroNumber
@@ -51,11 +55,13 @@ judged : (stm : Stm) (command s : List ℕ) {byte : ℕ} {code : Code} {id numbe
     ∷ rule (da && not set) Answer.NoReference
     ∷ rule absent Answer.NotHeld
     ∷ rule full Answer.AllHeld
+    ∷ rule (tests && not de) Answer.OutsideDE
+    ∷ rule (tests && running) Answer.TestRunning
     ∷ [])
     → answer ≡ firstOf (rulesFor stm command (codeOf (codeByte command)) s)
-unfolding isRepeat isNext endsNothing findsNoPlace rulesFor
-judged stm command s e1 e2 e3 e4 e5 e6 e7 e8 e9 e10 e11 e12 e13 e14 e15 =
-    rw (e15, e14, e13, e12, e11, e10, e9, e8, e7, e6, e5, e4, e3, e2, e1)
+unfolding isRepeat isNext endsNothing findsNoPlace testsOutside testsTwice rulesFor
+judged stm command s e1 e2 e3 e4 e5 e6 e7 e8 e9 e10 e11 e12 e13 e14 e15 e16 e17 e18 =
+    rw (e18, e17, e16, e15, e14, e13, e12, e11, e10, e9, e8, e7, e6, e5, e4, e3, e2, e1)
 
 byte-at-requires : tie.Need-byte-at-requires
 byte-at-requires c κs = tt
@@ -71,6 +77,9 @@ be32-requires c κs = tt
 
 is-code-requires : tie.Need-is-code-requires
 is-code-requires c κs = tt
+
+is-code-requires-2 : tie.Need-is-code-requires-2
+is-code-requires-2 c κs = tt
 
 is-last-requires : tie.Need-is-last-requires
 is-last-requires c κs = tt
@@ -99,29 +108,40 @@ ends-nothing-requires c κs = tt
 finds-no-place-requires : tie.Need-finds-no-place-requires
 finds-no-place-requires c κs = tt
 
+is-state-requires-2 : tie.Need-is-state-requires-2
+is-state-requires-2 c κs = tt
+
+is-running-requires : tie.Need-is-running-requires
+is-running-requires c κs = tt
+
 first-of-requires : tie.Need-first-of-requires
 first-of-requires c κs = tt
 
 returns : tie.Need-returns
 returns c =
-    let o = c .before .before .before .before .before in
-    let p = o .before .before .before .before .before in
-    let a = p .before .before .before .before .before .before .before .before .before .before .before .before .args in
-    judged (a .stm) (now (a .command)) (now (a .s))
-    (p .before .before .before .before .byte-at .ensures)
-    (p .before .before .before .code-of .ensures)
-    (p .before .before .byte-at2 .ensures)
-    (p .before .be32 .ensures)
-    (p .is-code .ensures)
-    (o .before .before .before .before .is-last .ensures)
-    (o .before .before .before .is-next .ensures)
-    (o .before .before .is-state .ensures)
-    (o .before .in-range .ensures)
-    (o .is-allowed .ensures)
-    (c .before .before .before .before .orders-da .ensures)
-    (c .before .before .before .has-reference .ensures)
-    (c .before .before .ends-nothing .ensures)
-    (c .before .finds-no-place .ensures)
+    let o = c .before .before .before .before .before .before in
+    let p = o .before .before .before .before .before .before in
+    let q = p .before .before .before .before .before .before in
+    judged (q .before .before .before .before .before .before .before .before .args .stm)
+    (now (q .before .before .before .before .before .before .before .before .args .command))
+    (now (q .before .before .before .before .before .before .before .before .args .s))
+    (p .before .before .before .before .before .byte-at .ensures)
+    (p .before .before .before .before .code-of .ensures)
+    (p .before .before .before .byte-at2 .ensures)
+    (p .before .before .be32 .ensures)
+    (p .before .is-code .ensures)
+    (p .is-code2 .ensures)
+    (o .before .before .before .before .before .is-last .ensures)
+    (o .before .before .before .before .is-next .ensures)
+    (o .before .before .before .is-state .ensures)
+    (o .before .before .in-range .ensures)
+    (o .before .is-allowed .ensures)
+    (o .orders-da .ensures)
+    (c .before .before .before .before .before .has-reference .ensures)
+    (c .before .before .before .before .ends-nothing .ensures)
+    (c .before .before .before .finds-no-place .ensures)
+    (c .before .before .is-state2 .ensures)
+    (c .before .is-running .ensures)
     (c .first-of .ensures)
 
 pub judge-spec : {M : Type 1} → statement M
@@ -133,6 +153,7 @@ judge-spec =
     byte-at-requires-2
     be32-requires
     is-code-requires
+    is-code-requires-2
     is-last-requires
     is-next-requires
     is-state-requires
@@ -142,5 +163,7 @@ judge-spec =
     has-reference-requires
     ends-nothing-requires
     finds-no-place-requires
+    is-state-requires-2
+    is-running-requires
     first-of-requires
     returns)

@@ -1,6 +1,6 @@
 -- `encoding::fields::train_of` meets its contract.
 use mathlib.Core.Path.{_∙_, ap}
-use Rattle.rules.specs.Operands.{bitOf, feedOf, trainOf}
+use Rattle.rules.specs.Operands.{bitOf, feedOf, extraOf, trainOf}
 use Rattle.encoding.proofs.fields.train_of.Statement.{statement}
 use Rattle.encoding.proofs.fields.train_of.Tie as tie
 
@@ -22,8 +22,14 @@ byte-at-requires-5 c κs = tt
 bit-of-requires : tie.Need-bit-of-requires
 bit-of-requires c κs = tt
 
+extra-of-requires : tie.Need-extra-of-requires
+extra-of-requires c κs = tt
+
 bit-of-requires-2 : tie.Need-bit-of-requires-2
 bit-of-requires-2 c κs = tt
+
+bit-of-requires-3 : tie.Need-bit-of-requires-3
+bit-of-requires-3 c κs = tt
 
 feed-of-requires : tie.Need-feed-of-requires
 feed-of-requires c κs = tt
@@ -59,11 +65,11 @@ returns : tie.Need-returns
 unfolding trainOf
 returns c =
     let d = c .before .before .before .before .before .before in
-    let e = d .before .before .before .before .before .before in
+    let e = d .before .before .before .before .before .before .before .before in
     let flags = e .before .before .before .before .byte-at .ensures in
     λ i. record {
-      softly = (d .before .before .before .before .before .bit-of .ensures ∙ ap (bitOf 0) flags) i;
-      feed = (d .before .before .before .feed-of .ensures ∙ ap feedOf (d .before .before .before .before .bit-of2 .ensures ∙ ap (bitOf 1) flags)) i;
+      softly = (d .before .before .before .before .before .bit-of2 .ensures ∙ ap (bitOf 0) flags) i;
+      feed = (d .before .before .before .feed-of .ensures ∙ ap feedOf (d .before .before .before .before .bit-of3 .ensures ∙ ap (bitOf 1) flags)) i;
       speed = d .before .before .be16 .ensures i;
       length = d .before .be162 .ensures i;
       full = d .be163 .ensures i;
@@ -73,6 +79,7 @@ returns c =
         c = e .before .before .byte-at3 .ensures i;
         permitted = e .before .byte-at4 .ensures i;
         bf = e .byte-at5 .ensures i;
+        extra = (d .before .before .before .before .before .before .extra-of .ensures ∙ ap extraOf (d .before .before .before .before .before .before .before .bit-of .ensures ∙ ap (bitOf 2) flags)) i;
       };
       margin = c .before .before .before .before .byte-at6 .ensures i;
       emergency = c .before .before .before .byte-at7 .ensures i;
@@ -91,7 +98,9 @@ train-of-spec =
     byte-at-requires-4
     byte-at-requires-5
     bit-of-requires
+    extra-of-requires
     bit-of-requires-2
+    bit-of-requires-3
     feed-of-requires
     be16-requires
     be16-requires-2

@@ -43,8 +43,8 @@ byte-at-requires-2 c κs = tt
 state-of-requires : tie.Need-state-of-requires
 state-of-requires c κs = tt
 
-enter-requires : tie.Need-enter-requires
-enter-requires c κs = tt
+change-state-requires : tie.Need-change-state-requires
+change-state-requires c κs = tt
 
 remember-requires-2 : tie.Need-remember-requires-2
 remember-requires-2 c κs = tt
@@ -124,6 +124,15 @@ brakes-by-requires c κs = tt
 remember-requires-9 : tie.Need-remember-requires-9
 remember-requires-9 c κs = tt
 
+enum-told-11 : tie.Need-enum-told-11
+enum-told-11 c = search needs
+
+begun-test-requires : tie.Need-begun-test-requires
+begun-test-requires c κs = tt
+
+remember-requires-10 : tie.Need-remember-requires-10
+remember-requires-10 c κs = tt
+
 returns : tie.Need-returns
 returns c =
     let told = c .before .before .before in
@@ -137,7 +146,7 @@ returns-2 c =
     let told = c .before .before .before .before in
     let coded = told .before .before in
     let a = coded .before .before .before .before .before .before .args in
-    rw (c .remember2 .ensures, c .before .enter .ensures, c .before .before .state-of .ensures, c .before .before .before .byte-at2 .ensures)
+    rw (c .remember2 .ensures, c .before .change-state .ensures, c .before .before .state-of .ensures, c .before .before .before .byte-at2 .ensures)
     (known (a .command .now) (a .s .now) (a .stm) (coded .before .byte-at .ensures) (coded .code-of .ensures) (told .enum-told2 .given .1))
 
 returns-3 : tie.Need-returns-3
@@ -204,6 +213,14 @@ returns-10 c =
     rw (c .remember9 .ensures, c .before .brakes-by .ensures)
     (known (a .command .now) (a .s .now) (a .stm) (coded .before .byte-at .ensures) (coded .code-of .ensures) (told .enum-told10 .given .1))
 
+returns-11 : tie.Need-returns-11
+returns-11 c =
+    let told = c .before .before .before in
+    let coded = told .before .before in
+    let a = coded .before .before .before .before .before .before .args in
+    rw (c .remember10 .ensures, c .before .begun-test .ensures)
+    (known (a .command .now) (a .s .now) (a .stm) (coded .before .byte-at .ensures) (coded .code-of .ensures) (told .enum-told11 .given .1))
+
 pub accept-spec : {M : Type 1} → statement M
 accept-spec =
     tie.close
@@ -217,7 +234,7 @@ accept-spec =
     enum-told-2
     byte-at-requires-2
     state-of-requires
-    enter-requires
+    change-state-requires
     remember-requires-2
     enum-told-3
     reading-of-requires
@@ -244,6 +261,9 @@ accept-spec =
     enum-told-10
     brakes-by-requires
     remember-requires-9
+    enum-told-11
+    begun-test-requires
+    remember-requires-10
     returns
     returns-2
     returns-3
@@ -253,4 +273,5 @@ accept-spec =
     returns-7
     returns-8
     returns-9
-    returns-10)
+    returns-10
+    returns-11)

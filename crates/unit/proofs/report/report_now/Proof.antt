@@ -20,7 +20,7 @@ returns : tie.Need-returns
 unfolding reportInDA reportWith
 returns c =
     let o = c .before .before .before in
-    let a = o .before .before .before .before .before .before .before .before .args in
+    let a = o .before .before .before .before .before .before .before .before .before .args in
     rw (
       c .report-in-da .ensures,
       c .before .seen-with .ensures,

@@ -12,6 +12,9 @@ fresh-brakes-requires c κs = tt
 fresh-requires : tie.Need-fresh-requires
 fresh-requires c κs = tt
 
+fresh-test-requires : tie.Need-fresh-test-requires
+fresh-test-requires c κs = tt
+
 fresh-kept-requires : tie.Need-fresh-kept-requires
 fresh-kept-requires c κs = tt
 
@@ -21,10 +24,11 @@ fresh-last-requires c κs = tt
 returns : tie.Need-returns
 unfolding freshWith
 returns c =
-    let o = c .before .before in
+    let o = c .before .before .before in
     rw (
       c .fresh-last .ensures,
       c .before .fresh-kept .ensures,
+      c .before .before .fresh-test .ensures,
       o .fresh .ensures,
       o .before .fresh-brakes .ensures,
       o .before .before .fresh-track .ensures,
@@ -37,6 +41,7 @@ fresh-with-spec =
     fresh-track-requires
     fresh-brakes-requires
     fresh-requires
+    fresh-test-requires
     fresh-kept-requires
     fresh-last-requires
     returns)
