@@ -108,10 +108,14 @@ fn with_extra(train: Train, extra: u8) -> Train
 
 // In DE: measures, then takes a brake test on; once it has passed, the extra goes.
 fn test_brakes(command: &[u8], r: Reading, stm: Stm) -> Stm
+    requires { ⌜ isState State.DA (stm .control .state) ≡ false ⌝ }
     ensures { λ x. ⌜ x ≡ remembered (now (command .entry)) (tests r (measures r stm)) ⌝ }
 {
     let mut next = stm;
+    let control = stm.control;
+    let state = control.state;
     let train = stm.train;
+    let brakes = stm.brakes;
     let before = stm.feedback;
     let begun = stm.test;
     let feedback = feedback_after(train, before, r);
@@ -121,7 +125,12 @@ fn test_brakes(command: &[u8], r: Reading, stm: Stm) -> Stm
     next.feedback = feedback;
     next.test = test;
     next.kept = kept_of(r);
-    remember(command, next)
+    let last = Last {
+        bytes: padded(command),
+        report: report_outside(state, brakes, feedback, test),
+    };
+    next.last = last;
+    next
 }
 
 // ---- in DA

@@ -56,7 +56,10 @@ enum-told : tie.Need-enum-told
 enum-told c = search needs
 
 test-brakes-requires : tie.Need-test-brakes-requires
-test-brakes-requires c κs = tt
+test-brakes-requires c κs =
+    let a = c .before .before .before .before .before .args in
+    let same = ap (λ s. s .control .state) (c .before .before .moved-in .ensures) ∙ state-moved (a .stm .control .state) (a .r) (a .stm) in
+    ap (isState State.DA) (same ∙ c .enum-told .given .1)
 
 measure-requires : tie.Need-measure-requires
 measure-requires c κs =

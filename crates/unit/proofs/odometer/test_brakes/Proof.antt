@@ -1,5 +1,7 @@
 -- `unit::odometer::test_brakes` meets its contract.
-use Rattle.rules.specs.Odometer.{measures}
+use Rattle.rules.specs.Odometer.{measures, tests}
+use Rattle.rules.specs.Commands.{remembered}
+use Rattle.unit.proofs.Outside.{report-elsewhere}
 use Rattle.unit.proofs.odometer.test_brakes.Statement.{statement}
 use Rattle.unit.proofs.odometer.test_brakes.Tie as tie
 
@@ -18,18 +20,26 @@ with-extra-requires c κs = tt
 kept-of-requires : tie.Need-kept-of-requires
 kept-of-requires c κs = tt
 
-remember-requires : tie.Need-remember-requires
-remember-requires c κs = tt
+padded-requires : tie.Need-padded-requires
+padded-requires c κs = tt
+
+report-outside-requires : tie.Need-report-outside-requires
+report-outside-requires c κs = tt
 
 returns : tie.Need-returns
-unfolding measures
+unfolding remembered measures
 returns c =
-    let tested = c .before .before .before .before in
+    let padded = c .before in
+    let kept = padded .before in
+    let tested = kept .before .before .before in
+    let s = tested .before .before .before .before .before .before .before .before in
     rw (
-      c .remember .ensures,
-      c .before .kept-of .ensures,
-      c .before .before .with-extra .ensures,
-      c .before .before .before .extra-left .ensures,
+      report-elsewhere (tests (s .args .r) (measures (s .args .r) (s .args .stm))) (s .pre),
+      c .report-outside .ensures,
+      padded .padded .ensures,
+      kept .kept-of .ensures,
+      kept .before .with-extra .ensures,
+      kept .before .before .extra-left .ensures,
       tested .tested-at .ensures,
       tested .before .feedback-after .ensures,
     )
@@ -43,5 +53,6 @@ test-brakes-spec =
     extra-left-requires
     with-extra-requires
     kept-of-requires
-    remember-requires
+    padded-requires
+    report-outside-requires
     returns)
