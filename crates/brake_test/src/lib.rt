@@ -97,9 +97,10 @@ pub fn left_test(test: BrakeTest) -> BrakeTest
 {
     let stage = test.stage;
     if is_running(stage) {
-        return ended_test(Verdict::Failed);
+        ended_test(Verdict::Failed)
+    } else {
+        test
     }
-    test
 }
 
 // ---- a report in DE
@@ -143,11 +144,11 @@ fn stage_of(phase: Phase) -> Stage
 fn has_dropped(steady: f32, pressure: f32) -> bool
     ensures { λ r. ⌜ r ≡ hasDropped steady pressure ⌝ }
 {
-    60.0
-        <= pressure::drop_of(Pressures {
-            pressure,
-            reference: steady,
-        })
+    let drop = pressure::drop_of(Pressures {
+        pressure,
+        reference: steady,
+    });
+    60.0 <= drop
 }
 
 // A test that brakes, after one more report: it passes at a drop, and fails at the limit.

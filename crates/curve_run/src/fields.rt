@@ -25,12 +25,14 @@ pub fn moved_of(r: &[u8]) -> u16 {
     wire::be16(r, 23)
 }
 
+// A record has no extra.
 fn times_of(r: &[u8]) -> Times {
     Times {
         brake: wire::byte_at(r, 7),
         c: wire::byte_at(r, 8),
         permitted: wire::byte_at(r, 9),
         bf: wire::byte_at(r, 10),
+        extra: 0,
     }
 }
 

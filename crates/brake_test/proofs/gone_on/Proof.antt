@@ -1,5 +1,4 @@
 -- `brake_test::gone_on` meets its contract.
-use mathlib.Core.Path.{sym}
 use mir.Syntax.{w16}
 use mir.ValLaws.{toZ-ofZ}
 use borrow.Author.Needs.{needs}
@@ -41,7 +40,7 @@ returns-2 c =
     )
 
 returns-3 : tie.Need-returns-3
-returns-3 c = rw (c .before .before .before .stage2 .given .1, sym (c .before .has-dropped .ensures)) (c .braked-on .ensures)
+returns-3 c = rw (c .before .before .before .stage2 .given .1, c .braked-on .ensures, c .before .has-dropped .ensures)
 
 pub gone-on-spec : {M : Type 1} → statement M
 gone-on-spec =

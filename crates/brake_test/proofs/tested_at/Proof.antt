@@ -1,8 +1,8 @@
 -- `brake_test::tested_at` meets its contract.
-use mathlib.Core.Path.{sym, ap, _∙_}
+use mathlib.Core.Path.{sym}
 use mir.Syntax.{w16}
 use mir.ValLaws.{toZ-ofZ}
-use Rattle.rules.specs.BrakeTest.{goneOn, testedAt}
+use Rattle.rules.specs.BrakeTest.{testedAt}
 use Rattle.brake_test.proofs.tested_at.Statement.{statement}
 use Rattle.brake_test.proofs.tested_at.Tie as tie
 
@@ -28,11 +28,13 @@ returns-2 : tie.Need-returns-2
 unfolding testedAt
 returns-2 c =
     let o = c .before .before .before in
-    let a = o .before .before .args in
-    rw (sym (o .before .is-running .ensures), sym (o .is-unfit .ensures), c .before .before .if1 .left)
-    (c .gone-on .ensures
-    ∙ ap (λ external. goneOn (a .train) (a .feedback) external (a .test .result) (a .test .stage))
-    (toZ-ofZ w16 (a .r .external) (record { sfits = c .before .struct-told .given .1 .1 .1 .0 .1 })))
+    rw (
+      c .gone-on .ensures,
+      toZ-ofZ w16 (o .before .before .args .r .external) (record { sfits = c .before .struct-told .given .1 .1 .1 .0 .1 }),
+      sym (o .before .is-running .ensures),
+      sym (o .is-unfit .ensures),
+      c .before .before .if1 .left,
+    )
 
 pub tested-at-spec : {M : Type 1} → statement M
 tested-at-spec =
