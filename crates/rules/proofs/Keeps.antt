@@ -192,7 +192,7 @@ train-limits : (stm : Stm) → Parts stm → (stm .control .started || false) �
 train-limits stm p e = limits-of (stm .train) (p .body .range (sym (or-false (stm .control .started)) ∙ e))
 
 -- a test that is not refused by 14 is asked in DE
-asked-in-de : (stm : Stm) → testsOutside stm Code.TestBrakes ≡ false → isState State.DE (stm .control .state) ≡ true
+pub asked-in-de : (stm : Stm) → testsOutside stm Code.TestBrakes ≡ false → isState State.DE (stm .control .state) ≡ true
 unfolding testsOutside
 asked-in-de stm e = not-false (isState State.DE (stm .control .state)) e
 

@@ -8,26 +8,30 @@ use mathlib.Core.Logic.{inl, inr}
 use mathlib.Core.List.{List, [], _∷_}
 use lib.Dec.{eqb, ltb}
 use lib.Ieee.{Float}
-use borrow.Author.Tests.{lt-ltb, ne-eqb, not-false, not-true, eqb-true}
-use Rattle.wire.specs.Form.{operandsOf}
+use lib.ListN.{length}
+use borrow.Author.Tests.{lt-ltb, ne-eqb, not-true, eqb-true}
+use Rattle.wire.specs.declared.form.Form.{Form}
+use Rattle.wire.specs.Form.{formOf, operandsOf}
 use Rattle.pressure.specs.declared.Measured.{Measured}
 use Rattle.pressure.specs.Convert.{halvedOf, isLow, isHigh, sensorFault, pressureOf}
 use Rattle.pressure.specs.Reference.{dropOf}
 use Rattle.pressure.specs.Report.{pressureAt, reported, reportedTo}
 use Rattle.curve.proofs.Extra.{leads-without-extra}
-use Rattle.rules.specs.Numbers.{isAccepted, isCode, isState, codeOf}
-use Rattle.rules.specs.Operands.{codeByte, bitOf, extraOf, trainOf, readingOf}
+use Rattle.rules.specs.Numbers.{answerNumber, isAccepted, isCode, isState, codeOf}
+use Rattle.rules.specs.Operands.{codeByte, numberOf, bitOf, extraOf, trainOf, readingOf}
 use Rattle.rules.specs.BrakeTest.{isRunning, hasPassed, hasFailed, begunTest, leftTest, isUnfit, phaseOn, hasDropped, testedAt, extraLeft}
 use Rattle.rules.specs.Odometer.{withExtra}
 use Rattle.rules.specs.Reports.{reportOutside, reportFor, reportOf}
-use Rattle.rules.specs.Refusals.{testsOutside}
+use Rattle.rules.specs.Refusals.{isStart, isRepeat, isNext, endsNothing, findsNoPlace, testsOutside, testsTwice, firstOf, rulesFor, wholeAnswer, answerFor, answerOf}
+use Rattle.rules.specs.Calls.{callOf}
 use Rattle.rules.specs.Runs.{Sent, answerTo, stateAfter, stateAtEnd, noneAccepted, isOf}
 use Rattle.rules.specs.History.{firstOperand, speedOf, externalOf, orderIn, messagesIn, isIn, isReport, collected, standsThrough}
 use Rattle.rules.specs.Braking.{readingIn}
 use Rattle.rules.specs.Written.{orderInTest, runsIn, MessagesTell}
 use Rattle.rules.specs.Units.{isExtraSound, StageSound}
 use Rattle.rules.specs.TestRuns.{endsTest, Asked, reportsOf, isFit, dropsFrom, BrakesStill, Passes, RunsStill, Fails, EndedBy, TestOrdersFull, RunningIsTold, ResultIsTold, ResultStands}
-use Rattle.rules.specs.TestRuns.{NoTestUnasked, LeavingFailsTest, NoTestOutsideDE, ExtraByFlag, NoFlagNoExtra, ExtraUntilPassed, PassedHasNoExtra, NoExtraStays}
+use Rattle.rules.specs.TestRuns.{isJudged, AskingIsAnswered, NoTestUnasked, LeavingFailsTest, NoTestOutsideDE, ExtraByFlag, NoFlagNoExtra, ExtraUntilPassed, PassedHasNoExtra, NoExtraStays}
+use Rattle.rules.specs.declared.Answer.{Answer}
 use Rattle.rules.specs.declared.Code.{Code}
 use Rattle.rules.specs.declared.State.{State}
 use Rattle.rules.specs.declared.Train.{Train}
@@ -44,8 +48,8 @@ use Rattle.rules.proofs.After.{train-after, test-after, testIn, testBy,
 use Rattle.rules.proofs.Ground.{spared-first}
 use Rattle.rules.proofs.Readings.{train-once, feedback-over-reports}
 use Rattle.rules.proofs.Fresh.{state-stays}
-use Rattle.rules.proofs.Written.{written-is, report-kept, report-at-end, messages-tell}
-use Rattle.rules.proofs.Keeps.{call-keeps-unit, run-keeps-unit}
+use Rattle.rules.proofs.Written.{written-is, report-kept, report-at-end, test-runs, messages-tell}
+use Rattle.rules.proofs.Keeps.{asked-in-de, call-keeps-unit, run-keeps-unit}
 use Rattle.rules.proofs.TestParts.{none-tested}
 use Rattle.rules.proofs.TestCourse.{byReport, byReports, settles-is, brakes-is, passed-is, failed-is, Course, settles, brakes, failed, course}
 
@@ -235,17 +239,15 @@ module _ (stm : Stm) (x : Sent) (ys : List Sent) (asked : Asked stm x ys) where
   is-test : codeOf (codeByte (x .command)) ≡ Code.TestBrakes
   is-test = code-is Code.TestBrakes (codeOf (codeByte (x .command))) (asked .asks)
 
-  asked-in-de : isIn State.DE stm ≡ true
-  unfolding testsOutside
-  asked-in-de =
-      not-false (isIn State.DE stm) (ap (testsOutside stm) (sym is-test) ∙ passed stm x (asked .accepted) .1 .inDE)
+  found-in-de : isIn State.DE stm ≡ true
+  found-in-de = asked-in-de stm (ap (testsOutside stm) (sym is-test) ∙ passed stm x (asked .accepted) .1 .inDE)
 
   begins-in-de : isIn State.DE (stateAfter stm x) ≡ true
   begins-in-de =
       ap (λ control. isState State.DE (control .state))
       (state-stays stm x (asked .accepted) (ap (λ code. isCode Code.Start code || isCode Code.ChangeState code) is-test)
       (ap (λ code. (isCode Code.Odometer code && isIn State.DA stm) && stateAfter stm x .brakes .failed) is-test))
-      ∙ asked-in-de
+      ∙ found-in-de
 
   begins-afresh : stateAfter stm x .test ≡ begunTest (stm .test)
   begins-afresh = test-after-by stm x (asked .accepted) ∙ ap (λ code. testBy code (operandsOf (x .command)) stm) is-test
@@ -353,6 +355,50 @@ result-stands stm x ys asked bit = go (course-last stm x ys asked)
     go (brakes b is) = result-last stm x ys asked _ is
     go (Course.passed e is) = impossible (sym (runs-last stm x ys asked _ is) ∙ bit)
     go (failed e is) = impossible (sym (runs-last stm x ys asked _ is) ∙ bit)
+
+-- ---- the answer to one that is asked for
+
+asked-late : (t5 t6 t7 t8 again inDE runs : Bool)
+    → let answer = answerNumber (cond t5 Answer.NotStarted (cond t6 Answer.ZeroNumber (cond t7 Answer.WrongNumber (cond t8 Answer.Failed
+    (cond again Answer.Again (cond (not inDE) Answer.OutsideDE (cond runs Answer.TestRunning Answer.Accepted))))))) in
+    isJudged answer ≡ true → answer ≡ cond inDE (cond runs 15 0) 14
+asked-late true t6 t7 t8 again inDE runs e = impossible e
+asked-late false true t7 t8 again inDE runs e = impossible e
+asked-late false false true t8 again inDE runs e = impossible e
+asked-late false false false true again inDE runs e = impossible e
+asked-late false false false false true inDE runs e = impossible e
+asked-late false false false false false true true e = refl
+asked-late false false false false false true false e = refl
+asked-late false false false false false false runs e = refl
+
+-- the answer by the list 5 to 15 to a command with this code
+abbrev AnsweredAs : Stm → List ℕ → Code → Type 0
+AnsweredAs stm command code =
+    let answer = answerNumber (firstOf (rulesFor stm command code (operandsOf command))) in
+    isJudged answer ≡ true → answer ≡ cond (isIn State.DE stm) (cond (runsIn (stm .test .stage)) 15 0) 14
+
+asked-whole : (stm : Stm) (command : List ℕ) → AnsweredAs stm command Code.TestBrakes
+unfolding rulesFor endsNothing findsNoPlace testsOutside testsTwice
+asked-whole stm command e =
+    asked-late (not (stm .control .started) && not (isStart command)) (eqb (numberOf command) 0)
+    (not (isStart command) && not (isRepeat stm command) && not (isNext stm command))
+    (isState State.FA (stm .control .state) && not (isStart command) && not (isRepeat stm command)) (isRepeat stm command)
+    (isIn State.DE stm) (isRunning (stm .test .stage)) e
+    ∙ ap (λ runs. cond (isIn State.DE stm) (cond runs 15 0) 14) (test-runs (stm .test .stage))
+
+asked-form : (form : Form) (stm : Stm) (command : List ℕ) → isOf Code.TestBrakes command ≡ true
+    → isJudged (answerNumber (answerFor form (wholeAnswer stm command))) ≡ true
+    → answerNumber (answerFor form (wholeAnswer stm command)) ≡ cond (isIn State.DE stm) (cond (runsIn (stm .test .stage)) 15 0) 14
+asked-form Form.WrongArea stm command c e = impossible e
+asked-form Form.NoBytes stm command c e = impossible e
+asked-form Form.NoCode stm command c e = impossible e
+asked-form Form.WrongLength stm command c e = impossible e
+asked-form Form.Whole stm command c e =
+    subst (AnsweredAs stm command) (sym (code-is Code.TestBrakes (codeOf (codeByte command)) c)) (asked-whole stm command) e
+
+pub asking-is-answered : AskingIsAnswered
+unfolding callOf answerOf
+asking-is-answered stm x c e = asked-form (formOf (x .command) (length (x .area))) stm (x .command) c e
 
 -- ---- no test that is not asked for
 

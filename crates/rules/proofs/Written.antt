@@ -404,7 +404,7 @@ messages-in stm State.HS = refl
 messages-in stm State.DA = ap messagesIn (da-fields stm)
 messages-in stm State.FA = refl
 
-test-runs : (stage : Stage) → isRunning stage ≡ runsIn stage
+pub test-runs : (stage : Stage) → isRunning stage ≡ runsIn stage
 test-runs Stage.Idle = refl
 test-runs (Stage.Settling phase) = refl
 test-runs (Stage.Braking steady reports) = refl

@@ -13,8 +13,8 @@ use Rattle.pressure.specs.Phases.{isSet}
 use Rattle.pressure.specs.Report.{freshFeedback}
 use Rattle.pressure.specs.Claims.{pressureUnset}
 use Rattle.wire.specs.Numbers.{byteAt}
-use Rattle.rules.specs.Numbers.{isAccepted}
-use Rattle.rules.specs.Operands.{bitOf}
+use Rattle.rules.specs.Numbers.{answerNumber, isAccepted}
+use Rattle.rules.specs.Operands.{bitOf, within}
 use Rattle.rules.specs.Places.{anyOf, allOf}
 use Rattle.rules.specs.Odometer.{withExtra}
 use Rattle.rules.specs.Runs.{Sent, Moment, answerTo, stateAfter, momentOf, moments, stateAtEnd, noneAccepted, isOf}
@@ -156,6 +156,17 @@ ResultStands =
     bitOf 3 (messagesIn (last .last .report)) ≡ true → last .test .result ≡ stm .test .result
 
 -- ---- beginning and leaving
+
+-- an answer that is none of 1 to 8 and not 100: the command has passed these, and is no repeat
+abbrev pub isJudged : ℕ → Bool
+isJudged answer = not (within 1 8 answer) && not (eqb answer 100)
+
+-- "14, test asked outside DE; 15, test already running", and at no other; a 40 that is neither is accepted
+abbrev pub AskingIsAnswered : Type 0
+AskingIsAnswered =
+    (stm : Stm) (x : Sent)
+    → isOf Code.TestBrakes (x .command) ≡ true → isJudged (answerNumber (answerTo stm x)) ≡ true
+    → answerNumber (answerTo stm x) ≡ cond (isIn State.DE stm) (cond (runsIn (stm .test .stage)) 15 0) 14
 
 -- no test runs that no 40 has asked for, and no result comes but by one or by a start
 abbrev pub NoTestUnasked : Type 0
