@@ -1,10 +1,8 @@
-// 01's numbers: answers, codes, states, orders, bars and modes.
+// 01's numbers: answers, codes, states and orders.
 ghost use mathlib.Core.Path.{_≡_};
-ghost use Rattle.rules.specs.Numbers.{answerNumber, isAccepted, isAnswered, codeNumber, codeOf, isCode, stateNumber, stateOf, isState, orderNumber, barNumber, modeNumber};
+ghost use Rattle.rules.specs.Numbers.{answerNumber, isAccepted, isAnswered, codeNumber, codeOf, isCode, stateNumber, stateOf, isState, orderNumber};
 use rules::Answer;
-use rules::Bar;
 use rules::Code;
-use rules::Mode;
 use rules::Order;
 use rules::State;
 
@@ -128,27 +126,5 @@ pub fn order_number(order: Order) -> u8
         Order::Soft => 1,
         Order::Full => 2,
         Order::Emergency => 3,
-    }
-}
-
-pub fn bar_number(bar: Bar) -> u8
-    ensures { λ r. ⌜ r ≡ barNumber bar ⌝ }
-{
-    match bar {
-        Bar::Empty => 0,
-        Bar::LightGrey => 1,
-        Bar::Yellow => 2,
-    }
-}
-
-pub fn mode_number(mode: Mode) -> u8
-    ensures { λ r. ⌜ r ≡ modeNumber mode ⌝ }
-{
-    match mode {
-        Mode::Normal => 0,
-        Mode::PreIndication => 1,
-        Mode::Indication => 2,
-        Mode::Warning => 3,
-        Mode::Intervention => 4,
     }
 }

@@ -18,6 +18,7 @@ use Rattle.curve.specs.Ground.{largestFailing}
 use Rattle.interval.specs.Permitted.{permittedOf}
 use Rattle.interval.specs.Judging.{isFast, brakesAt, judgedOf}
 use Rattle.places.specs.Places.{leastPermitted, anyBrakes}
+use Rattle.colours.specs.Rows.{rows, holdsFor, passing, rowsFor, rowOf}
 use Rattle.rules.specs.Numbers.{codeOf, stateOf}
 use Rattle.rules.specs.Operands.{trainOf, trainInRange, startInRange, readingOf, odometerInRange}
 use Rattle.rules.specs.Operands.{curveOf, curveInRange, newCurveInRange, sectionOf, sectionInRange}
@@ -32,7 +33,7 @@ use Rattle.rules.specs.Releases.{causesAt, addedBrakes, rollLeft, leftBr
 use Rattle.rules.specs.BrakeTest.{freshTest, phaseOn, hasDropped, brakedOn, testedAt}
 use Rattle.rules.specs.Odometer.{isInsufficient, seenWith, seenOf, seenIn, moves, measures}
 use Rattle.rules.specs.Odometer.{notedTrack, notes, adds, releases, supervised}
-use Rattle.rules.specs.Shows.{goesBefore, chosenOf, chosenFrom, chosen, shownAs}
+use Rattle.rules.specs.Shows.{goesBefore, chosenOf, chosenFrom, chosen, shownAs, showingOf}
 use Rattle.rules.specs.Reports.{causesNumber, messagesOf, offeredOf, isOver, shownFields, changeOf}
 use Rattle.rules.specs.Reports.{reportWith, reportInDA, reportOutside, reportOf}
 use Rattle.rules.specs.Commands.{freshKept, freshLast, noTrain, freshWith}
@@ -78,7 +79,7 @@ unfolding feedback-computes curves-compute zipWith
     causesAt addedBrakes rollLeft leftBrakes releasedBrakes sinceBy brakesBy
     freshTest phaseOn hasDropped brakedOn testedAt
     isInsufficient seenWith seenOf seenIn moves measures notedTrack notes adds releases supervised
-    goesBefore chosenOf chosenFrom chosen shownAs
+    goesBefore chosenOf chosenFrom chosen shownAs showingOf rows holdsFor passing rowsFor rowOf
     causesNumber messagesOf offeredOf isOver shownFields changeOf reportWith reportInDA reportOutside reportOf
     freshKept freshLast noTrain freshWith freshStm stopped padded remembered acceptedOf
     isRepeat isNext endsNothing findsNoPlace testsOutside testsTwice rulesFor answerOf

@@ -240,18 +240,9 @@ unfolding padded
 length-padded zero s = refl
 length-padded (suc n) s = ap suc (length-padded n (drop 1 s))
 
--- the fields of the shown curve, or of none, are four
-length-shown : (over insufficient : Bool) (shown : Candidate) → length (shownFields over insufficient shown) ≡ 4
-unfolding shownFields
-length-shown over insufficient shown = go (shown .judged .held) refl
-  where
-    go : (t : Bool) → shown .judged .held ≡ t → length (shownFields over insufficient shown) ≡ 4
-    go true e = rw e
-    go false e = rw e
-
 length-in-DA : (stm : Stm) → length (reportInDA stm) ≡ reportLength
-unfolding reportInDA reportWith
-length-in-DA stm = rw (length-append, length-shown)
+unfolding reportInDA reportWith shownFields
+length-in-DA stm = refl
 
 length-report : (state : State) (stm : Stm) → length (reportFor state stm) ≡ reportLength
 unfolding reportOutside

@@ -3,7 +3,7 @@ use mathlib.Core.Path.{_≡_, refl, sym, _∙_, ap, ap₂, subst}
 use Prim.Native.Nat.{ℕ, _+_}
 use native.Mathlib.Omega.{arith}
 use native.Mathlib.Decide.{decLt}
-use mathlib.Core.Bool.{Bool, true, false, cond, _&&_, and-true, and-false, or-false}
+use mathlib.Core.Bool.{Bool, true, false, cond, not, _&&_, and-true, and-false, or-false}
 use mathlib.Core.Logic.{inl, inr}
 use mathlib.Core.List.{List, [], _∷_, _++_, map, zipWith, List·Memᴰ, Memᴰ·cast, Memᴰ·map, Memᴰ·of-map}
 use lib.Dec.{eqb, ltb}
@@ -14,18 +14,23 @@ use Rattle.pressure.specs.Reference.{dropOf}
 use Rattle.curve.specs.declared.Curve.{Curve}
 use Rattle.curve.specs.declared.Judged.{Judged}
 use Rattle.curve.specs.Deceleration.{levelOf}
-use Rattle.interval.specs.Intervals.{rankOf, shownNumber}
+use Rattle.interval.specs.Intervals.{rankOf}
 use Rattle.curve.specs.Ground.{never}
 use Rattle.interval.specs.Changes.{toChange}
 use Rattle.interval.specs.Judging.{judgedOf}
 use Rattle.places.specs.Places.{judgedHere}
 use Rattle.places.proofs.Held.{held-judged, judged-held}
-use Rattle.rules.specs.Numbers.{isAccepted, isState, orderNumber, barNumber, modeNumber, bitNumber}
+use Rattle.colours.specs.Numbers.{showingNumber, barNumber, modeNumber}
+use Rattle.colours.specs.Rows.{rows, holdsFor, passing, rowsFor, rowOf}
+use Rattle.colours.specs.declared.Showing.{Showing}
+use Rattle.colours.specs.declared.Row.{Row}
+use Rattle.colours.proofs.Claims.{one-row-holds}
+use Rattle.rules.specs.Numbers.{isAccepted, isState, orderNumber, bitNumber}
 use Rattle.rules.specs.Places.{anyOf}
 use Rattle.rules.specs.Speeds.{brakingOf, judgedNow, vmaxOf, permittedSpeed}
 use Rattle.rules.specs.Table.{causes, stands, orderOf, pressedFor, isReleasable, isDropped}
 use Rattle.rules.specs.Odometer.{isInsufficient, seenIn}
-use Rattle.rules.specs.Shows.{candidate, goesBefore, chosen, shownAs, barOf, modeOf}
+use Rattle.rules.specs.Shows.{candidate, goesBefore, chosen, shownAs, showingOf}
 use Rattle.rules.specs.Reports.{causesNumber, messagesOf, wouldDrop, offeredOf, isOver, shownFields, changeOf, two, four, reportWith, reportInDA, reportOutside, testOrder, reportFor, reportOf}
 use Rattle.rules.specs.Commands.{withLast, remembered, acceptedOf}
 use Rattle.rules.specs.BrakeTest.{isRunning, hasPassed, hasFailed}
@@ -34,7 +39,7 @@ use Rattle.rules.specs.History.{Tells, causesIn, permittedIn, vmaxIn, me
 use Rattle.rules.specs.History.{isIn, Holds, intervalIn}
 use Rattle.rules.specs.Claims.{UpToSources}
 use Rattle.rules.specs.Columns.{IsFree}
-use Rattle.rules.specs.Written.{Largest, permits, UpToPermitted, Offers, WrittenInDA, ReportInDA, GoesFirst, Shows, ShowsNone, ShownInDA, StateAndOrder, WrittenOutside, ReportOutsideDA, orderInTest, runsIn, MessagesTell, MessagesAreWritten}
+use Rattle.rules.specs.Written.{Largest, permits, UpToPermitted, Offers, WrittenInDA, ReportInDA, GoesFirst, ByRow, Shows, ShowsNone, ShownInDA, StateAndOrder, WrittenOutside, ReportOutsideDA, orderInTest, runsIn, MessagesTell, MessagesAreWritten}
 use Rattle.rules.specs.declared.State.{State}
 use Rattle.rules.specs.declared.Cause.{Cause}
 use Rattle.rules.specs.declared.Causes.{Causes}
@@ -79,12 +84,6 @@ written-is stm x e = answer-writes-report stm x (rw e) ∙ report-kept stm x e
 
 -- ---- in DA
 
--- the four fields of the shown curve, or of none
-cond-four : (t : Bool) (a b c d a′ b′ c′ d′ : ℕ)
-    → cond t (a ∷ b ∷ c ∷ d ∷ []) (a′ ∷ b′ ∷ c′ ∷ d′ ∷ []) ≡ cond t a a′ ∷ cond t b b′ ∷ cond t c c′ ∷ cond t d d′ ∷ []
-cond-four true a b c d a′ b′ c′ d′ = refl
-cond-four false a b c d a′ b′ c′ d′ = refl
-
 module _ (stm : Stm) where
   abbrev pub judged : List Judged
   judged = judgedNow (stm .train) (stm .kept) (stm .track .curves)
@@ -95,11 +94,12 @@ module _ (stm : Stm) where
   abbrev pub shown : Candidate
   shown = chosen (stm .track .curves) judged
 
-  abbrev pub fourth : (Candidate → ℕ) → ℕ → ℕ
-  fourth field none = cond (shown .judged .held) (field shown) none
+  abbrev pub fieldOr : (Candidate → ℕ) → ℕ → ℕ
+  fieldOr field none = cond (shown .judged .held) (field shown) none
 
-  abbrev pub modeOfShown : Candidate → ℕ
-  modeOfShown c = modeNumber (modeOf (isOver (stm .train) (stm .kept) c) (isInsufficient (stm .train) (stm .feedback)) (shownAs c))
+  -- the row of a curve that may be shown
+  abbrev pub rowFor : Candidate → Row
+  rowFor c = rowOf (isOver (stm .train) (stm .kept) c) (not (isInsufficient (stm .train) (stm .feedback))) (showingOf c)
 
   -- the report, field by field
   abbrev pub inDA : List ℕ
@@ -107,23 +107,17 @@ module _ (stm : Stm) where
       3
       ∷ orderNumber (orderOf (stm .train .softly) (stm .brakes .causes))
       ∷ two (causesNumber (stm .brakes .causes)) (two (permittedSpeed vmax judged) (two vmax
-      (fourth (λ c. c .curve .id) 255
-      ∷ fourth (λ c. shownNumber (shownAs c)) 0
-      ∷ fourth (λ c. barNumber (barOf (shownAs c))) 0
-      ∷ fourth modeOfShown 0
+      (fieldOr (λ c. c .curve .id) 255
+      ∷ showingNumber (showingOf shown)
+      ∷ barNumber (rowFor shown .bar)
+      ∷ modeNumber (rowFor shown .mode)
       ∷ messagesOf (stm .brakes) (stm .feedback) (stm .test)
       ∷ offeredOf (seenIn stm) (stm .brakes .causes)
       ∷ four (changeOf (stm .train) (stm .kept) shown) [])))
 
   pub da-fields : reportInDA stm ≡ inDA
   unfolding reportInDA reportWith shownFields
-  da-fields =
-      ap (λ shown. 3 ∷ orderNumber (orderOf (stm .train .softly) (stm .brakes .causes))
-      ∷ two (causesNumber (stm .brakes .causes)) (two (permittedSpeed vmax judged) (two vmax
-      (shown ++ (messagesOf (stm .brakes) (stm .feedback) (stm .test) ∷ offeredOf (seenIn stm) (stm .brakes .causes)
-      ∷ four (changeOf (stm .train) (stm .kept) (chosen (stm .track .curves) judged)) [])))))
-      (cond-four (shown .judged .held) (shown .curve .id) (shownNumber (shownAs shown)) (barNumber (barOf (shownAs shown)))
-      (modeOfShown shown) 255 0 0 0)
+  da-fields = refl
 
   pub in-da : isIn State.DA stm ≡ true → reportOf stm ≡ inDA
   unfolding reportOf
@@ -285,8 +279,20 @@ module _ (stm : Stm) where
 
   -- a field of the shown curve
   field-of : (field : Candidate → ℕ) (none : ℕ) (one : Curve) → told one ≡ shown stm → shown stm .judged .held ≡ true
-      → fourth stm field none ≡ field (told one)
+      → fieldOr stm field none ≡ field (told one)
   field-of field none one is held = ap₂ (λ t c. cond t (field c) none) held (sym is)
+
+  -- what is shown, where a curve is
+  showing : (one : Curve) → told one ≡ shown stm → shown stm .judged .held ≡ true → showingOf (shown stm) ≡ Showing.Curve (shownAs (told one))
+  unfolding showingOf
+  showing one is held = ap₂ (λ t c. cond t (Showing.Curve (shownAs c)) Showing.NoCurve) held (sym is)
+
+  -- its row
+  by-row : (c : Candidate) (past sufficient : Bool) (what : Showing) → rowFor stm (shown stm) ≡ rowOf past sufficient what
+      → ByRow past sufficient what (inDA stm)
+  by-row c past sufficient what e =
+      let one = one-row-holds past sufficient what in
+      record { row = one .row; alone = one .alone; bar = ap (λ r. barNumber (r .bar)) (e ∙ one .taken); mode = ap (λ r. modeNumber (r .mode)) (e ∙ one .taken) }
 
   module _ (curve : Curve) (holds : Holds (stm .track .curves) curve) where
     first-told : (other : Curve) → Holds (stm .track .curves) other
@@ -311,9 +317,9 @@ module _ (stm : Stm) where
           holds = record { place = place; held = held };
           first = λ other held. goes-first one other (ap (goesBefore (told other)) is ∙ first-told other held .2);
           id = field-of (λ c. c .curve .id) 255 one is some-shown;
-          interval = field-of (λ c. shownNumber (shownAs c)) 0 one is some-shown;
-          bar = field-of (λ c. barNumber (barOf (shownAs c))) 0 one is some-shown;
-          mode = field-of (modeOfShown stm) 0 one is some-shown;
+          interval = ap showingNumber (showing one is some-shown);
+          colours = by-row (shown stm) _ _ _ (ap₂ (λ past what. rowOf past (not (isInsufficient (stm .train) (stm .feedback))) what)
+          (ap (isOver (stm .train) (stm .kept)) (sym is)) (showing one is some-shown));
           change = four-read _ _ ∙ field-of (λ c. toChange (c .curve) (brakingOf (stm .train) (stm .kept .halka)) (stm .kept .speed)) never one is some-shown;
         }
 
@@ -328,8 +334,15 @@ none-shown stm none =
     none curve (record { place = place; held = sym (held-said stm curve) ∙ ap (λ c. c .judged .held) is ∙ h }))
 
 shows-none : (stm : Stm) → shown stm .judged .held ≡ false → ShowsNone (inDA stm)
-unfolding changeOf
-shows-none stm e = record { id = rw e; interval = rw e; bar = rw e; mode = rw e; change = four-read _ _ ∙ rw e }
+unfolding changeOf showingOf rows holdsFor passing rowsFor rowOf
+shows-none stm e = record {
+  id = rw e;
+  interval = rw e;
+  bar = rw e;
+  mode = rw e;
+  colours = λ past sufficient. record { row = _; alone = refl; bar = rw e; mode = rw e };
+  change = four-read _ _ ∙ rw e;
+}
 
 pub shown-in-da : ShownInDA
 shown-in-da stm x e d =
@@ -350,13 +363,20 @@ module _ (stm : Stm) where
 
   outside : (state : State) (order : ℕ) → StateAndOrder state (stm .test .stage) (reportOutside state order stm)
       → WrittenOutside state (stm .test .stage) (reportOutside state order stm)
-  unfolding reportOutside
+  unfolding reportOutside rows holdsFor passing rowsFor
   outside state order first = record {
     first = first;
     causes = bytes-read 0 _;
     permitted = bytes-read 0 _;
     vmax = bytes-read 0 _;
-    shown = record { id = refl; interval = refl; bar = refl; mode = refl; change = four-read never [] };
+    shown = record {
+      id = refl;
+      interval = refl;
+      bar = refl;
+      mode = refl;
+      colours = λ past sufficient. record { row = _; alone = refl; bar = refl; mode = refl };
+      change = four-read never [];
+    };
     offered = refl;
   }
 

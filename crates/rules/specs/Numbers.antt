@@ -1,4 +1,4 @@
--- 01's numbers: codes, answers, states, orders, bars, modes and the bits of the causes, each by cases.
+-- 01's numbers: codes, answers, states, orders and the bits of the causes, each by cases.
 use Prim.Native.Nat.{ℕ}
 use mathlib.Core.Bool.{Bool, cond, not, _||_}
 use lib.Dec.{eqb}
@@ -7,8 +7,6 @@ use Rattle.rules.specs.declared.Code.{Code}
 use Rattle.rules.specs.declared.State.{State}
 use Rattle.rules.specs.declared.Cause.{Cause}
 use Rattle.rules.specs.declared.Order.{Order}
-use Rattle.rules.specs.declared.Bar.{Bar}
-use Rattle.rules.specs.declared.Mode.{Mode}
 
 -- "Answers": "0 accepted. 100 again", and the list 1 to 13; 02, F-3: "Errors: 14, test asked outside DE; 15, test already running"
 abbrev pub answerNumber : Answer → ℕ
@@ -102,20 +100,6 @@ orderNumber Order.Emergency = 3
 -- an order is this one
 abbrev pub isOrder : Order → Order → Bool
 isOrder wanted order = eqb (orderNumber order) (orderNumber wanted)
-
--- "Bars (001, table 4.8-5): A none, Bf light grey 1, others yellow 2"
-abbrev pub barNumber : Bar → ℕ
-barNumber Bar.Empty = 0
-barNumber Bar.LightGrey = 1
-barNumber Bar.Yellow = 2
-
--- "Modes", with the names of 001, table 4.8-5
-abbrev pub modeNumber : Mode → ℕ
-modeNumber Mode.Normal = 0
-modeNumber Mode.PreIndication = 1
-modeNumber Mode.Indication = 2
-modeNumber Mode.Warning = 3
-modeNumber Mode.Intervention = 4
 
 -- "Causes and release", the column Bit
 abbrev pub bitNumber : Cause → ℕ

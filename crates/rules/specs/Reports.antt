@@ -1,20 +1,21 @@
--- The report (01, "Report"; 02, F-1 and F-3).
+-- The report (01, "Report"; 02, F-1, F-3 and F-4).
 use Prim.Native.Nat.{ℕ, _+_, _^_}
-use mathlib.Core.Bool.{Bool, true, false, cond, _&&_}
+use mathlib.Core.Bool.{Bool, true, false, cond, not, _&&_}
 use mathlib.Core.List.{List, [], _∷_, _++_, map, foldr}
 use Rattle.wire.specs.Numbers.{highByte, lowByte, highPair, lowPair}
 use Rattle.pressure.specs.declared.Measured.{Measured}
 use Rattle.curve.specs.declared.Judged.{Judged}
 use Rattle.curve.specs.Boundary.{isReached}
-use Rattle.interval.specs.Intervals.{shownNumber}
 use Rattle.curve.specs.Ground.{never}
 use Rattle.interval.specs.Changes.{toChange}
-use Rattle.rules.specs.Numbers.{stateNumber, orderNumber, barNumber, modeNumber, bitNumber}
+use Rattle.colours.specs.Numbers.{showingNumber, barNumber, modeNumber}
+use Rattle.colours.specs.Rows.{rowOf}
+use Rattle.rules.specs.Numbers.{stateNumber, orderNumber, bitNumber}
 use Rattle.rules.specs.Places.{anyOf}
 use Rattle.rules.specs.Speeds.{brakingOf, judgedNow, vmaxOf, permittedSpeed}
 use Rattle.rules.specs.Table.{causes, stands, orderOf, isDropped}
 use Rattle.rules.specs.BrakeTest.{isRunning, isTestBraking, hasPassed, hasFailed}
-use Rattle.rules.specs.Shows.{chosen, shownAs, barOf, modeOf}
+use Rattle.rules.specs.Shows.{chosen, showingOf}
 use Rattle.rules.specs.Odometer.{isInsufficient, seenIn}
 use Rattle.rules.specs.declared.State.{State}
 use Rattle.rules.specs.declared.Train.{Train}
@@ -59,16 +60,14 @@ unfoldable pub isOver : Train → Kept → Candidate → Bool
 isOver train kept shown =
     isReached (shown .curve) (brakingOf train (kept .halka) .level) (kept .speed) (brakingOf train (kept .halka) .leads .permitted)
 
--- the fields of the shown curve: "shown id (255 none); interval (0 none ..); bar; mode", "No curve: bar and mode 0"
+-- the fields of what is shown: "shown id (255 none); interval (0 none ..); bar; mode"; 02, F-4: bar and mode of the row that holds
 unfoldable pub shownFields : Bool → Bool → Candidate → List ℕ
 shownFields over insufficient shown =
-    cond (shown .judged .held)
-    (shown .curve .id
-    ∷ shownNumber (shownAs shown)
-    ∷ barNumber (barOf (shownAs shown))
-    ∷ modeNumber (modeOf over insufficient (shownAs shown))
-    ∷ [])
-    (255 ∷ 0 ∷ 0 ∷ 0 ∷ [])
+    cond (shown .judged .held) (shown .curve .id) 255
+    ∷ showingNumber (showingOf shown)
+    ∷ barNumber (rowOf over (not insufficient) (showingOf shown) .bar)
+    ∷ modeNumber (rowOf over (not insufficient) (showingOf shown) .mode)
+    ∷ []
 
 -- 02, F-1: "The report gains four bytes at its end with this for the shown curve, FFFFFFFF where none is shown"
 unfoldable pub changeOf : Train → Kept → Candidate → ℕ

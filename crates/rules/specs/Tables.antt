@@ -17,13 +17,15 @@ use Rattle.curve.specs.declared.Direction.{Direction}
 use Rattle.curve.specs.declared.Curve.{Curve}
 use Rattle.curve.specs.declared.Interval.{Interval}
 use Rattle.curve.specs.declared.Shown.{Shown}
-use Rattle.interval.specs.Intervals.{shownNumber}
-use Rattle.rules.specs.Numbers.{answerNumber, codeNumber, codeOf, stateNumber, stateOf, orderNumber, barNumber}
-use Rattle.rules.specs.Numbers.{modeNumber, bitNumber}
+use Rattle.colours.specs.Numbers.{showingNumber, barNumber, modeNumber}
+use Rattle.colours.specs.Rows.{rowOf}
+use Rattle.colours.specs.declared.Showing.{Showing}
+use Rattle.colours.specs.declared.Bar.{Bar}
+use Rattle.colours.specs.declared.Mode.{Mode}
+use Rattle.rules.specs.Numbers.{answerNumber, codeNumber, codeOf, stateNumber, stateOf, orderNumber, bitNumber}
 use Rattle.rules.specs.Operands.{readingOf}
 use Rattle.rules.specs.Places.{anyOf, allOf}
 use Rattle.rules.specs.Table.{causesFor, orderOf}
-use Rattle.rules.specs.Shows.{barOf, modeOf}
 use Rattle.rules.specs.Reports.{two, causesNumber}
 use Rattle.rules.specs.Commands.{freshStm}
 use Rattle.rules.specs.Runs.{send, Sent, momentOf, answerTo, stateAfter}
@@ -33,8 +35,6 @@ use Rattle.rules.specs.declared.Answer.{Answer}
 use Rattle.rules.specs.declared.Code.{Code}
 use Rattle.rules.specs.declared.State.{State}
 use Rattle.rules.specs.declared.Order.{Order}
-use Rattle.rules.specs.declared.Bar.{Bar}
-use Rattle.rules.specs.declared.Mode.{Mode}
 use Rattle.rules.specs.declared.Cause.{Cause}
 use Rattle.rules.specs.declared.Causes.{Causes}
 use Rattle.rules.specs.declared.Train.{Train}
@@ -251,33 +251,35 @@ numbersTold =
 
 -- ---- intervals, bars and modes
 
-abbrev pub shownIntervals : List Shown
-shownIntervals =
-    Shown.Computed Interval.A
-    ∷ Shown.Ab
-    ∷ Shown.Computed Interval.Bf
-    ∷ Shown.Computed Interval.B
-    ∷ Shown.Computed Interval.C
-    ∷ Shown.Computed Interval.D
-    ∷ Shown.Computed Interval.E
-    ∷ Shown.Computed Interval.F
+abbrev pub showings : List Showing
+showings =
+    Showing.NoCurve
+    ∷ Showing.Curve (Shown.Computed Interval.A)
+    ∷ Showing.Curve Shown.Ab
+    ∷ Showing.Curve (Shown.Computed Interval.Bf)
+    ∷ Showing.Curve (Shown.Computed Interval.B)
+    ∷ Showing.Curve (Shown.Computed Interval.C)
+    ∷ Showing.Curve (Shown.Computed Interval.D)
+    ∷ Showing.Curve (Shown.Computed Interval.E)
+    ∷ Showing.Curve (Shown.Computed Interval.F)
     ∷ []
 
--- by whether the shown curve is past permitted and whether the drop is insufficient
-abbrev pub modesWhen : Bool → Bool → List ℕ → Bool
-modesWhen over insufficient modes = areNumbered (λ shown. modeNumber (modeOf over insufficient shown)) shownIntervals modes
+-- by whether the shown curve is past permitted and whether the drop is sufficient; "Bars: A none, Bf light grey 1, others yellow 2",
+-- "No curve: bar and mode 0"
+abbrev pub coloursWhen : Bool → Bool → List ℕ → Bool
+coloursWhen past sufficient modes =
+    areNumbered (λ showing. barNumber (rowOf past sufficient showing .bar)) showings (0 ∷ 0 ∷ 2 ∷ 1 ∷ 2 ∷ 2 ∷ 2 ∷ 2 ∷ 2 ∷ [])
+    && areNumbered (λ showing. modeNumber (rowOf past sufficient showing .mode)) showings modes
 
 unfoldable pub intervalsTold : List Bool
 intervalsTold =
-    -- "1 A, 2 Ab, 3 Bf, 4 B, 5 C, 6 D, 7 E, 8 F"
-    areNumbered shownNumber shownIntervals (1 ∷ 2 ∷ 3 ∷ 4 ∷ 5 ∷ 6 ∷ 7 ∷ 8 ∷ [])
-    -- "Bars: A none, Bf light grey 1, others yellow 2"
-    ∷ areNumbered (λ shown. barNumber (barOf shown)) shownIntervals (0 ∷ 2 ∷ 1 ∷ 2 ∷ 2 ∷ 2 ∷ 2 ∷ 2 ∷ [])
+    -- "0 none, 1 A, 2 Ab, 3 Bf, 4 B, 5 C, 6 D, 7 E, 8 F"
+    areNumbered showingNumber showings (0 ∷ 1 ∷ 2 ∷ 3 ∷ 4 ∷ 5 ∷ 6 ∷ 7 ∷ 8 ∷ [])
     -- "Modes: A 0, Bf 1, Ab and B 2, B past permitted 3, C 3, D 3 or 4 if drop is insufficient, E and F 4"
-    ∷ modesWhen false false (0 ∷ 2 ∷ 1 ∷ 2 ∷ 3 ∷ 3 ∷ 4 ∷ 4 ∷ [])
-    ∷ modesWhen true false (0 ∷ 2 ∷ 1 ∷ 3 ∷ 3 ∷ 3 ∷ 4 ∷ 4 ∷ [])
-    ∷ modesWhen false true (0 ∷ 2 ∷ 1 ∷ 2 ∷ 3 ∷ 4 ∷ 4 ∷ 4 ∷ [])
-    ∷ modesWhen true true (0 ∷ 2 ∷ 1 ∷ 3 ∷ 3 ∷ 4 ∷ 4 ∷ 4 ∷ [])
+    ∷ coloursWhen false true (0 ∷ 0 ∷ 2 ∷ 1 ∷ 2 ∷ 3 ∷ 3 ∷ 4 ∷ 4 ∷ [])
+    ∷ coloursWhen true true (0 ∷ 0 ∷ 2 ∷ 1 ∷ 3 ∷ 3 ∷ 3 ∷ 4 ∷ 4 ∷ [])
+    ∷ coloursWhen false false (0 ∷ 0 ∷ 2 ∷ 1 ∷ 2 ∷ 3 ∷ 4 ∷ 4 ∷ 4 ∷ [])
+    ∷ coloursWhen true false (0 ∷ 0 ∷ 2 ∷ 1 ∷ 3 ∷ 3 ∷ 4 ∷ 4 ∷ 4 ∷ [])
     ∷ []
 
 -- ---- strengths

@@ -1,7 +1,7 @@
--- What the bytes of a report say of the unit (01, "Report"; 02, F-1 and F-3). Proved in proofs/.
+-- What the bytes of a report say of the unit (01, "Report"; 02, F-1, F-3 and F-4). Proved in proofs/.
 use mathlib.Core.Path.{_≡_}
 use Prim.Native.Nat.{ℕ, max, _≤_, _<_}
-use mathlib.Core.Bool.{Bool, true, false, cond, _||_}
+use mathlib.Core.Bool.{Bool, true, false, cond, not, _||_}
 use mathlib.Core.Logic.{_⊎_}
 use mathlib.Core.List.{List, [], _∷_, map, foldr}
 use lib.Dec.{leb}
@@ -13,10 +13,13 @@ use Rattle.interval.specs.Intervals.{rankOf, shownOf, shownNumber}
 use Rattle.interval.specs.Permitted.{permittedOf}
 use Rattle.curve.specs.Ground.{never}
 use Rattle.interval.specs.Changes.{toChange}
-use Rattle.rules.specs.Numbers.{isAccepted, barNumber, modeNumber, bitNumber}
+use Rattle.colours.specs.Numbers.{barNumber, modeNumber}
+use Rattle.colours.specs.Rows.{rowsFor}
+use Rattle.colours.specs.declared.Showing.{Showing}
+use Rattle.colours.specs.declared.Row.{Row}
+use Rattle.rules.specs.Numbers.{isAccepted, bitNumber}
 use Rattle.rules.specs.Operands.{bitOf}
 use Rattle.rules.specs.Table.{stands}
-use Rattle.rules.specs.Shows.{barOf, modeOf}
 use Rattle.rules.specs.Runs.{Sent, answerTo, stateAfter, momentOf, stateAtEnd, noneAccepted, freshens}
 use Rattle.rules.specs.History.{Tells, stateIn, orderIn, causesIn, permittedIn, vmaxIn, idIn, shownIn, barIn, modeIn, messagesIn, offeredIn, changeIn}
 use Rattle.rules.specs.History.{isIn, isSupervised, curveAt, Holds, brakingIn, intervalIn}
@@ -122,14 +125,20 @@ shownAsIn stm curve = shownOf (curve .past) (intervalIn stm curve)
 abbrev pub isPastPermitted : Stm → Curve → Bool
 isPastPermitted stm curve = isReached curve (brakingIn stm .level) (stm .kept .speed) (brakingIn stm .leads .permitted)
 
+-- 02, F-4: bytes 10 and 11 are bar and mode of the one row that holds for what is shown
+pub record ByRow (past sufficient : Bool) (showing : Showing) (report : List ℕ) : Type 0 where
+  pub row : Row
+  pub alone : rowsFor past sufficient showing ≡ row ∷ []
+  pub bar : barIn report ≡ barNumber (row .bar)
+  pub mode : modeIn report ≡ modeNumber (row .mode)
+
 pub record Shows (stm : Stm) (report : List ℕ) : Type 0 where
   pub curve : Curve
   pub holds : Holds (stm .track .curves) curve
   pub first : (other : Curve) → Holds (stm .track .curves) other → GoesFirst stm curve other
   pub id : idIn report ≡ curve .id
   pub interval : shownIn report ≡ shownNumber (shownAsIn stm curve)
-  pub bar : barIn report ≡ barNumber (barOf (shownAsIn stm curve))
-  pub mode : modeIn report ≡ modeNumber (modeOf (isPastPermitted stm curve) (isShort stm) (shownAsIn stm curve))
+  pub colours : ByRow (isPastPermitted stm curve) (not (isShort stm)) (Showing.Curve (shownAsIn stm curve)) report
   -- 02, F-1: "four bytes at its end with this for the shown curve"
   pub change : changeIn report ≡ toChange curve (brakingIn stm) (stm .kept .speed)
 
@@ -139,6 +148,7 @@ pub record ShowsNone (report : List ℕ) : Type 0 where
   pub interval : shownIn report ≡ 0
   pub bar : barIn report ≡ 0
   pub mode : modeIn report ≡ 0
+  pub colours : (past sufficient : Bool) → ByRow past sufficient Showing.NoCurve report
   pub change : changeIn report ≡ never
 
 abbrev pub ShownInDA : Type 0

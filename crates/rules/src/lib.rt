@@ -252,22 +252,6 @@ pub enum Order {
     Emergency,
 }
 
-// The bars of a shown curve (001, table 4.8-5).
-pub enum Bar {
-    Empty,
-    LightGrey,
-    Yellow,
-}
-
-// The modes of a shown curve (001, table 4.8-5).
-pub enum Mode {
-    Normal,
-    PreIndication,
-    Indication,
-    Warning,
-    Intervention,
-}
-
 // A place with its curve and what the curve says: one that may be shown.
 pub struct Candidate {
     pub curve: curve::Curve,

@@ -1,18 +1,16 @@
-// The shown curve, its bar and its mode, and how far to its next change.
+// The shown curve, and how far to its next change.
 ghost use mathlib.Core.Path.{_≡_};
 ghost use Rattle.rules.specs.Reports.{changeOf};
-ghost use Rattle.rules.specs.Shows.{noCandidate, isLower, goesBefore, chosenOf, chosen, shownAs, computedBar, barOf, computedMode, modeOf};
+ghost use Rattle.rules.specs.Shows.{noCandidate, isLower, goesBefore, chosenOf, chosen, shownAs, showingOf};
 use crate::curves::free_curve;
 use crate::whole::braking_of;
+use colours::Showing;
 use curve::Curve;
-use curve::Interval;
 use curve::Judged;
 use curve::Shown;
 use places::PLACES;
-use rules::Bar;
 use rules::Candidate;
 use rules::Kept;
-use rules::Mode;
 use rules::Train;
 
 fn no_candidate() -> Candidate
@@ -75,7 +73,7 @@ pub fn chosen(curves: [Curve; PLACES], judged: [Judged; PLACES]) -> Candidate
 }
 
 // The shown curve's interval as shown.
-pub fn shown_as(shown: Candidate) -> Shown
+fn shown_as(shown: Candidate) -> Shown
     ensures { λ r. ⌜ r ≡ shownAs shown ⌝ }
 {
     let curve = shown.curve;
@@ -84,62 +82,15 @@ pub fn shown_as(shown: Candidate) -> Shown
     interval::shown_of(curve.past, interval)
 }
 
-fn computed_bar(interval: Interval) -> Bar
-    ensures { λ r. ⌜ r ≡ computedBar interval ⌝ }
+// What is shown: its interval, or no curve.
+pub fn showing_of(shown: Candidate) -> Showing
+    ensures { λ r. ⌜ r ≡ showingOf shown ⌝ }
 {
-    match interval {
-        Interval::A => Bar::Empty,
-        Interval::Bf => Bar::LightGrey,
-        Interval::B => Bar::Yellow,
-        Interval::C => Bar::Yellow,
-        Interval::D => Bar::Yellow,
-        Interval::E => Bar::Yellow,
-        Interval::F => Bar::Yellow,
-    }
-}
-
-pub fn bar_of(shown: Shown) -> Bar
-    ensures { λ r. ⌜ r ≡ barOf shown ⌝ }
-{
-    match shown {
-        Shown::Ab => Bar::Yellow,
-        Shown::Computed(interval) => computed_bar(interval),
-    }
-}
-
-// `over` is whether the permitted boundary is reached, `insufficient` whether the drop is.
-fn computed_mode(over: bool, insufficient: bool, interval: Interval) -> Mode
-    ensures { λ r. ⌜ r ≡ computedMode over insufficient interval ⌝ }
-{
-    match interval {
-        Interval::A => Mode::Normal,
-        Interval::Bf => Mode::PreIndication,
-        Interval::B => {
-            if over {
-                Mode::Warning
-            } else {
-                Mode::Indication
-            }
-        }
-        Interval::C => Mode::Warning,
-        Interval::D => {
-            if insufficient {
-                Mode::Intervention
-            } else {
-                Mode::Warning
-            }
-        }
-        Interval::E => Mode::Intervention,
-        Interval::F => Mode::Intervention,
-    }
-}
-
-pub fn mode_of(over: bool, insufficient: bool, shown: Shown) -> Mode
-    ensures { λ r. ⌜ r ≡ modeOf over insufficient shown ⌝ }
-{
-    match shown {
-        Shown::Ab => Mode::Indication,
-        Shown::Computed(interval) => computed_mode(over, insufficient, interval),
+    let judged = shown.judged;
+    if judged.held {
+        Showing::Curve(shown_as(shown))
+    } else {
+        Showing::NoCurve
     }
 }
 

@@ -20,11 +20,13 @@ use brakes::causes::order_of;
 use brakes::causes::would_drop;
 use brakes::seeing::is_insufficient;
 use brakes::seeing::seen_with;
+use colours::bar_number;
+use colours::mode_number;
+use colours::row_of;
+use colours::showing_number;
 use curve::Curve;
 use curve::Judged;
-use encoding::numbers::bar_number;
 use encoding::numbers::is_state;
-use encoding::numbers::mode_number;
 use encoding::numbers::order_number;
 use encoding::numbers::state_number;
 use places::PLACES;
@@ -42,11 +44,9 @@ use rules::Stage;
 use rules::State;
 use rules::Stm;
 use rules::Train;
-use track::shows::bar_of;
 use track::shows::change_of;
 use track::shows::chosen;
-use track::shows::mode_of;
-use track::shows::shown_as;
+use track::shows::showing_of;
 use track::whole::braking_of;
 use track::whole::judge_now;
 use track::whole::permitted_speed;
@@ -118,25 +118,27 @@ fn is_over(train: Train, kept: Kept, shown: Candidate) -> bool
     curve::reached(curve, braking.level, kept.speed, leads.permitted)
 }
 
-fn shown_fields(over: bool, insufficient: bool, shown: Candidate) -> Shown
-    ensures { λ r. ⌜ (r .id ∷ r .interval ∷ r .bar ∷ r .mode ∷ []) ≡ shownFields over insufficient shown ⌝ }
+// The shown curve's id, or 255.
+fn shown_id(shown: Candidate) -> u8
+    ensures { λ r. ⌜ r ≡ cond (shown .judged .held) (shown .curve .id) 255 ⌝ }
 {
     let curve = shown.curve;
     let judged = shown.judged;
-    if judged.held {
-        let interval = shown_as(shown);
-        return Shown {
-            id: curve.id,
-            interval: interval::shown_number(interval),
-            bar: bar_number(bar_of(interval)),
-            mode: mode_number(mode_of(over, insufficient, interval)),
-        };
-    }
+    if judged.held { curve.id } else { 255 }
+}
+
+fn shown_fields(over: bool, insufficient: bool, shown: Candidate) -> Shown
+    ensures { λ r. ⌜ (r .id ∷ r .interval ∷ r .bar ∷ r .mode ∷ []) ≡ shownFields over insufficient shown ⌝ }
+{
+    let showing = showing_of(shown);
+    let row = row_of(over, !insufficient, showing);
+    let bar = row.bar;
+    let mode = row.mode;
     Shown {
-        id: 255,
-        interval: 0,
-        bar: 0,
-        mode: 0,
+        id: shown_id(shown),
+        interval: showing_number(showing),
+        bar: bar_number(bar),
+        mode: mode_number(mode),
     }
 }
 

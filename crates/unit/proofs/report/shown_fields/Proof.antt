@@ -3,20 +3,20 @@ use Rattle.rules.specs.Reports.{shownFields}
 use Rattle.unit.proofs.report.shown_fields.Statement.{statement}
 use Rattle.unit.proofs.report.shown_fields.Tie as tie
 
-shown-as-requires : tie.Need-shown-as-requires
-shown-as-requires c κs = tt
+showing-of-requires : tie.Need-showing-of-requires
+showing-of-requires c κs = tt
 
-shown-number-requires : tie.Need-shown-number-requires
-shown-number-requires c κs = tt
+row-of-requires : tie.Need-row-of-requires
+row-of-requires c κs = tt
 
-bar-of-requires : tie.Need-bar-of-requires
-bar-of-requires c κs = tt
+shown-id-requires : tie.Need-shown-id-requires
+shown-id-requires c κs = tt
+
+showing-number-requires : tie.Need-showing-number-requires
+showing-number-requires c κs = tt
 
 bar-number-requires : tie.Need-bar-number-requires
 bar-number-requires c κs = tt
-
-mode-of-requires : tie.Need-mode-of-requires
-mode-of-requires c κs = tt
 
 mode-number-requires : tie.Need-mode-number-requires
 mode-number-requires c κs = tt
@@ -24,30 +24,24 @@ mode-number-requires c κs = tt
 returns : tie.Need-returns
 unfolding shownFields
 returns c =
-    let o = c .before .before .before .before in
+    let o = c .before .before in
     rw (
       c .mode-number .ensures,
-      c .before .mode-of .ensures,
-      c .before .before .bar-number .ensures,
-      c .before .before .before .bar-of .ensures,
-      o .shown-number .ensures,
-      o .before .shown-as .ensures,
-      o .before .before .if1 .taken,
+      c .before .bar-number .ensures,
+      o .showing-number .ensures,
+      o .before .shown-id .ensures,
+      o .before .before .row-of .ensures,
+      o .before .before .before .showing-of .ensures,
     )
-
-returns-2 : tie.Need-returns-2
-unfolding shownFields
-returns-2 c = rw (c .if1 .left)
 
 pub shown-fields-spec : {M : Type 1} → statement M
 shown-fields-spec =
     tie.close
     (tie.spec
-    shown-as-requires
-    shown-number-requires
-    bar-of-requires
+    showing-of-requires
+    row-of-requires
+    shown-id-requires
+    showing-number-requires
     bar-number-requires
-    mode-of-requires
     mode-number-requires
-    returns
-    returns-2)
+    returns)
