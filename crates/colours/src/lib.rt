@@ -9,8 +9,8 @@ pub use numbers::bar_number;
 pub use numbers::mode_number;
 pub use numbers::showing_number;
 pub use rows::ROWS;
-pub use rows::TABLE;
 pub use rows::row_of;
+pub use rows::table;
 
 // What a report shows: no curve, or a curve in this interval.
 pub enum Showing {

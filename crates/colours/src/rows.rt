@@ -1,6 +1,6 @@
 // The rows, and the one that holds.
 ghost use mathlib.Core.Path.{_≡_};
-ghost use Rattle.colours.specs.Rows.{isMet, holdsFor, rowOf};
+ghost use Rattle.colours.specs.Rows.{rows, isMet, holdsFor, passing, firstOf, rowOf};
 use crate::Bar;
 use crate::Condition;
 use crate::Mode;
@@ -13,16 +13,18 @@ use curve::Shown;
 // How many rows there are.
 pub const ROWS: usize = 11;
 
-// Table 4.8-5 of 001, row by row; the first is 01's.
-pub const TABLE: [Row; ROWS] = [
-    // no curve
-    Row {
-        showing: Showing::NoCurve,
-        past: Condition::Either,
-        sufficient: Condition::Either,
-        bar: Bar::Empty,
-        mode: Mode::Normal,
-    },
+// The row for no curve (01).
+const NO_CURVE: Row = Row {
+    showing: Showing::NoCurve,
+    past: Condition::Either,
+    sufficient: Condition::Either,
+    bar: Bar::Empty,
+    mode: Mode::Normal,
+};
+
+// Table 4.8-5 of 001, row by row, after the one for no curve.
+const TABLE: [Row; ROWS] = [
+    NO_CURVE,
     // a) A
     Row {
         showing: Showing::Curve(Shown::Computed(Interval::A)),
@@ -127,11 +129,10 @@ fn holds_for(past: bool, sufficient: bool, showing: Showing, row: Row) -> bool
         & is_met(also, sufficient)
 }
 
-// The row that holds.
-pub fn row_of(past: bool, sufficient: bool, showing: Showing) -> Row
-    ensures { λ r. ⌜ r ≡ rowOf past sufficient showing ⌝ }
+// The first of some rows that holds, and that for no curve where none does.
+fn first_row(past: bool, sufficient: bool, showing: Showing, table: [Row; ROWS]) -> Row
+    ensures { λ r. ⌜ r ≡ firstOf (passing (holdsFor past sufficient showing) table) ⌝ }
 {
-    let table = TABLE;
     let mut i = 0;
     while i < ROWS {
         let row = table[i];
@@ -140,5 +141,19 @@ pub fn row_of(past: bool, sufficient: bool, showing: Showing) -> Row
         }
         i += 1;
     }
-    table[0]
+    NO_CURVE
+}
+
+// The table, which is the list of the definition.
+pub fn table() -> [Row; ROWS]
+    ensures { λ r. ⌜ r ≡ rows ⌝ }
+{
+    TABLE
+}
+
+// The row that holds.
+pub fn row_of(past: bool, sufficient: bool, showing: Showing) -> Row
+    ensures { λ r. ⌜ r ≡ rowOf past sufficient showing ⌝ }
+{
+    first_row(past, sufficient, showing, table())
 }

@@ -288,9 +288,9 @@ module _ (stm : Stm) where
   showing one is held = ap₂ (λ t c. cond t (Showing.Curve (shownAs c)) Showing.NoCurve) held (sym is)
 
   -- its row
-  by-row : (c : Candidate) (past sufficient : Bool) (what : Showing) → rowFor stm (shown stm) ≡ rowOf past sufficient what
+  by-row : (past sufficient : Bool) (what : Showing) → rowFor stm (shown stm) ≡ rowOf past sufficient what
       → ByRow past sufficient what (inDA stm)
-  by-row c past sufficient what e =
+  by-row past sufficient what e =
       let one = one-row-holds past sufficient what in
       record { row = one .row; alone = one .alone; bar = ap (λ r. barNumber (r .bar)) (e ∙ one .taken); mode = ap (λ r. modeNumber (r .mode)) (e ∙ one .taken) }
 
@@ -318,8 +318,8 @@ module _ (stm : Stm) where
           first = λ other held. goes-first one other (ap (goesBefore (told other)) is ∙ first-told other held .2);
           id = field-of (λ c. c .curve .id) 255 one is some-shown;
           interval = ap showingNumber (showing one is some-shown);
-          colours = by-row (shown stm) _ _ _ (ap₂ (λ past what. rowOf past (not (isInsufficient (stm .train) (stm .feedback))) what)
-          (ap (isOver (stm .train) (stm .kept)) (sym is)) (showing one is some-shown));
+          colours = by-row _ _ _ (ap₂ (λ past what. rowOf past (not (isInsufficient (stm .train) (stm .feedback))) what)
+              (ap (isOver (stm .train) (stm .kept)) (sym is)) (showing one is some-shown));
           change = four-read _ _ ∙ field-of (λ c. toChange (c .curve) (brakingOf (stm .train) (stm .kept .halka)) (stm .kept .speed)) never one is some-shown;
         }
 
