@@ -81,8 +81,11 @@ STRENGTHS = "SEFSEEEFFSSE"
 NEVER_ALONE = (1, 4)
 
 INTERVALS = ["none", "A", "Ab", "Bf", "B", "C", "D", "E", "F"]
-SHOWN = [(0, 0, 0), (1, 0, 0), (2, 2, 2), (3, 1, 1), (4, 2, 2), (4, 2, 3),
-         (5, 2, 3), (6, 2, 3), (6, 2, 4), (7, 2, 4), (8, 2, 4)]
+# Table 4.8-5 of 001, row by row, after the one for no curve: interval; past permitted, drop sufficient (None: either); bar, mode.
+ROWS = {"no curve": ("none", None, None, 0, 0), "a) A": ("A", None, None, 0, 0), "b) Bf": ("Bf", None, None, 1, 1),
+        "c) Ab": ("Ab", None, None, 2, 2), "c) B": ("B", False, None, 2, 2), "d) B": ("B", True, None, 2, 3),
+        "e) C": ("C", None, None, 2, 3), "f) D": ("D", None, True, 2, 3), "g) D": ("D", None, False, 2, 4),
+        "h) E": ("E", None, None, 2, 4), "i) F": ("F", None, None, 2, 4)}
 
 
 def claims():
@@ -137,7 +140,7 @@ def claims():
         "a drop of 59.5 doesn't", "a drop at the beginning doesn't count", "a check begun by a command",
         "a check begun by a report", "over T_B reports after bit 11"]
     yield "Report", [f"state {name}" for name in STATES] + [f"order {n}" for n in range(4)] + [
-        f"interval, bar, mode: {INTERVALS[i]}, {b}, {m}" for i, b, m in SHOWN] + [
+        f"interval, bar, mode: {interval}, {bar}, {mode}" for interval, _, _, bar, mode in ROWS.values()] + [
         "DRIFTBROMSFEL", "NÖDBROMSFEL", "TRYCKGIVARFEL"] + [f"TRYCKGIVARFEL in {name}" for name in STATES] + [
         f"offer {n}" for n in range(4)] + [
         "shown by interval", "shown by interval, not the lowest permitted", "shown by permitted speed, not the lowest id",
@@ -194,6 +197,8 @@ def claims():
         "an extra again after a start", "no extra without flag bit 2", "an extra with HALKA", "an extra downhill",
         "an extra of an Expect Stop", "permitted speed by the extra", "a figure by the extra", "bit 2 by the extra alone",
         "bit 11 at T_B with the extra", "failed at T_B with the extra"]
+    yield "F-4", [f"row {name}, drop {word}" for name, row in ROWS.items() for word, is_so in (("sufficient", True), ("insufficient", False))
+                  if row[2] in (None, is_so)]
     yield "Figures", [
         "VMAX 100: 3,055 no order", "VMAX 100: 3,056 bit 0", "VMAX 100: 2,916 offered", "VMAX 100: 2,917 not offered",
         "P_FULL 380: 956 kPa gives 500 and the message", "full 700: 490 measured frees bit 6", "full 700: 489 doesn't"]
@@ -970,6 +975,7 @@ class Coverage:
         if report[8] == 255:
             self.expect(figure == LAST, "no figure where no curve is shown")
             self.see("no curve")
+            self.row(report, False)
             self.figure_before = None
             return
         train, held = self.judged()
@@ -996,7 +1002,7 @@ class Coverage:
             self.see("43,325 cm: 0", shown.d == 43325 and figure == 0)
         self.against(train, unit.v, report, shown, now)
         over = curves.reached(train, shown, unit.v, "permitted")
-        self.expect(report[9] != 4 or report[11] == 2 + over, "the mode in B goes by the permitted boundary")
+        self.row(report, over)
         self.figure_before = (report[8], train, unit.v, shown, now, INTERVALS[report[9]], figure, over)
 
     def against(self, train, v, report, shown, now):
@@ -1018,6 +1024,15 @@ class Coverage:
                      interval == now == "B" and not over and curves.reached(train, shown, v, "permitted"))
         elif (train_then, v_then) == (train, v) and then != shown:
             self.see("another command writes it anew", self.figure_before[6] != struct.unpack(">I", report[14:])[0])
+
+    def row(self, report, past):
+        """The one row that holds for what is shown."""
+        sufficient = self.unit.drop >= self.unit.train["sufficient"]
+        held = [name for name, row in ROWS.items()
+                if row[0] == INTERVALS[report[9]] and row[1] in (None, past) and row[2] in (None, sufficient)]
+        self.expect(len(held) == 1, "one row holds")
+        self.expect(ROWS[held[0]][3:] == (report[10], report[11]), "bar and mode are the row's")
+        self.see(f"row {held[0]}, drop {'sufficient' if sufficient else 'insufficient'}")
 
     def judged(self):
         """The train and the curves as tests/curve.py has them."""
