@@ -1,11 +1,11 @@
 -- What the bytes of a report say of the unit. Assumes nothing.
 use mathlib.Core.Path.{_≡_, refl, sym, _∙_, ap, ap₂, subst}
-use Prim.Native.Nat.{ℕ, _+_}
+use Prim.Native.Nat.{ℕ}
 use native.Mathlib.Omega.{arith}
 use native.Mathlib.Decide.{decLt}
 use mathlib.Core.Bool.{Bool, true, false, cond, not, _&&_, and-true, and-false, or-false}
 use mathlib.Core.Logic.{inl, inr}
-use mathlib.Core.List.{List, [], _∷_, _++_, map, zipWith, List·Memᴰ, Memᴰ·cast, Memᴰ·map, Memᴰ·of-map}
+use mathlib.Core.List.{List, [], _∷_, map, zipWith, List·Memᴰ, Memᴰ·cast, Memᴰ·map, Memᴰ·of-map}
 use lib.Dec.{eqb, ltb}
 use borrow.Author.Tests.{eqb-false, ne-eqb, ltb-false}
 use Rattle.laws.proofs.Lists.{_∈_, not-true-false}
