@@ -1,4 +1,2 @@
 mod Accepted
 mod Area
-mod Outside
-mod Supervising

@@ -2,14 +2,9 @@
 // bytes and the report area are lent.
 //
 // No public function has a `requires`: each is defined at every state, at every bytes and at every area.
-mod commands;
-mod odometer;
-mod report;
-mod state;
-
 pub use encoding::numbers::answer_number;
 pub use encoding::numbers::is_answered;
-pub use state::fresh;
+pub use steps::fresh;
 ghost use mathlib.Core.Path.{_≡_};
 ghost use mathlib.Core.Bool.{true, false, cond};
 ghost use lib.Dec.{eqb};
@@ -47,7 +42,7 @@ pub fn call(stm: Stm, command: &[u8], report: &mut [u8]) -> Outcome
     let area = report.len();
     let answer = refusals::answer_of(stm, command, area);
     if is_accepted(answer) {
-        let next = commands::accept(command, operands(command, area), stm);
+        let next = steps::accept(command, operands(command, area), stm);
         let last = next.last;
         let bytes = last.report;
         write(bytes, report);

@@ -1,0 +1,41 @@
+-- `steps::report::report_with` meets its contract.
+use mathlib.Core.Path.{sym, _∙_}
+use Rattle.rules.specs.Reports.{reportWith, reportInDA}
+use Rattle.steps.proofs.Outside.{report-inside}
+use Rattle.steps.proofs.report.report_with.Statement.{statement}
+use Rattle.steps.proofs.report.report_with.Tie as tie
+
+is-state-requires : tie.Need-is-state-requires
+is-state-requires c κs = tt
+
+report-in-da-requires : tie.Need-report-in-da-requires
+report-in-da-requires c κs = tt
+
+returns : tie.Need-returns
+unfolding reportInDA reportWith
+returns c =
+    let taken = c .before .before .before .before .before .before .before .before in
+    let s = taken .before .before .before in
+    rw (
+      report-inside (s .args .stm) (sym (taken .before .is-state .ensures) ∙ taken .if1 .taken),
+      c .report-in-da .ensures,
+      s .pre .0,
+      s .pre .1,
+      s .pre .2,
+    )
+
+report-of-requires : tie.Need-report-of-requires
+report-of-requires c κs = tt
+
+returns-2 : tie.Need-returns-2
+returns-2 c = c .report-of .ensures
+
+pub report-with-spec : {M : Type 1} → statement M
+report-with-spec =
+    tie.close
+    (tie.spec
+    is-state-requires
+    report-in-da-requires
+    returns
+    report-of-requires
+    returns-2)
