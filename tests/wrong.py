@@ -1,12 +1,12 @@
 #!/usr/bin/env python3
-"""Makes the definitions of `rules` wrong by one token, one at a time, in a copy of the repository, and tells which wrong ones the
-checker still takes: no promise speaks against those. docs/DECISIONS.md lists them.
+"""Makes the definitions of `rules` and `colours` wrong by one token, one at a time, in a copy of the repository, and tells which wrong
+ones the checker still takes: no promise speaks against those. docs/DECISIONS.md lists them.
 
     python3 tests/wrong.py [--most N] [--seed S] [FILE..]
 
-FILE is a name in crates/rules/specs, as Table; with none, every file of rules is tried. A change is a figure one more or one less, a
-test, a truth value, a constructor or a field for another of its type, or a `not` left out. A change that no longer has a type is left
-out of the count. Each takes some seconds; at most N are tried, chosen by the seed S.
+FILE is a name in crates/rules/specs, as Table, or a crate and a name, as colours/Rows; with none, every file of rules is tried. A change
+is a figure one more or one less, a test, a truth value, a constructor or a field for another of its type, or a `not` left out. A change
+that no longer has a type is left out of the count. Each takes some seconds; at most N are tried, chosen by the seed S.
 """
 import argparse
 import os
@@ -16,17 +16,17 @@ import shutil
 import subprocess
 import tempfile
 
-RULES = ['Numbers', 'Operands', 'Places', 'Speeds', 'Hold', 'Table', 'Checks', 'Releases', 'BrakeTest', 'Odometer', 'Shows', 'Reports',
-         'Commands', 'Refusals', 'Calls']
+RULES = ['Numbers', 'Operands', 'Places', 'Speeds', 'Hold', 'Table', 'Checks', 'Releases', 'BrakeTest', 'Odometer', 'Shows',
+         'colours/Numbers', 'colours/Rows', 'Reports', 'Commands', 'Refusals', 'Calls']
 SWAPS = {'ltb': ['leb'], 'leb': ['ltb'], 'lt': ['le'], 'le': ['lt'], '&&': ['||'], '||': ['&&'], 'true': ['false'], 'false': ['true'],
          'min': ['Prim.Native.Nat.max'], 'not': ['']}
-TOKEN = re.compile(r'0x[0-9A-F]+\b|\b\d+\b|\b(?:ltb|leb|lt|le|true|false|min|not)\b|&&|\|\||\b[A-Z]\w*\.[A-Z]\w*\b| \.[a-z]\w*\b')
+TOKEN = re.compile(r'0x[0-9A-F]+\b|\b\d+\b|\b(?:ltb|leb|lt|le|true|false|min|not)\b|&&|\|\||\b(?:[A-Z]\w*\.)?[A-Z]\w*\b| \.[a-z]\w*\b')
 
 
 def fields_and_variants():
     """field -> the fields of its struct that have its type; enum -> its variants."""
     fields, variants = {}, {}
-    for crate in ('rules', 'curve', 'pressure'):
+    for crate in ('rules', 'colours', 'curve', 'pressure'):
         with open(f'crates/{crate}/src/lib.rt') as f:
             text = re.sub(r'//.*', '', f.read())
         for body in re.findall(r'pub struct \w+ \{(.*?)\n\}', text, re.S):
@@ -41,6 +41,7 @@ def fields_and_variants():
 def wrong(text, fields, variants):
     """(line number, line, changed line) for each change of a definition's body."""
     inside = False
+    imported = [names.split(', ') for names in re.findall(r'the-variants\.\{(.*)\}', text)]
     for at, line in enumerate(text.split('\n')):
         start = re.match(r'(?:abbrev |unfoldable )?(?:pub )?(\w\S*) :', line)
         if start:
@@ -61,9 +62,11 @@ def wrong(text, fields, variants):
                 others = [str(int(old) + 1)] + ([str(int(old) - 1)] if int(old) else [])
             elif old.startswith(' .'):
                 others = [' .' + name for name in sorted(fields.get(old[2:], ()))]
-            else:
+            elif '.' in old:
                 enum, variant = old.split('.')
                 others = [f'{enum}.{name}' for name in variants.get(enum, ()) if name != variant]
+            else:
+                others = [name for names in imported if old in names for name in names if name != old]
             for new in others:
                 yield at, line, line[:token.start()] + new + line[token.end():]
 
@@ -78,25 +81,26 @@ def main():
     tables = fields_and_variants()
     found = []
     for name in args.files or RULES:
-        with open(f'crates/rules/specs/{name}.antt') as f:
-            found += [(name, *change) for change in wrong(f.read(), *tables)]
+        crate, name = name.split('/') if '/' in name else ('rules', name)
+        with open(f'crates/{crate}/specs/{name}.antt') as f:
+            found += [(crate, name, *change) for change in wrong(f.read(), *tables)]
     random.Random(args.seed).shuffle(found)
     counts = {'taken': 0, 'refused': 0, 'no type': 0}
     with tempfile.TemporaryDirectory() as work:
         copy = os.path.join(work, 'copy')
         shutil.copytree('.', copy, symlinks=True, ignore=shutil.ignore_patterns('.git'))
-        for name, at, line, new in sorted(found[:args.most]):
-            path = os.path.join(copy, f'crates/rules/specs/{name}.antt')
+        for crate, name, at, line, new in sorted(found[:args.most]):
+            path = os.path.join(copy, f'crates/{crate}/specs/{name}.antt')
             with open(path) as f:
                 text = f.read()
             lines = text.split('\n')
             lines[at] = new
             with open(path, 'w') as f:
                 f.write('\n'.join(lines))
-            run = subprocess.run(['rt', 'dev', 'rules'], cwd=copy, capture_output=True, text=True)
+            run = subprocess.run(['rt', 'dev', crate], cwd=copy, capture_output=True, text=True)
             with open(path, 'w') as f:
                 f.write(text)
-            errors = re.findall(r'crates/rules/(\S+?\.antt:\d+)\S*: error: `?([\w-]*)', run.stdout + run.stderr)
+            errors = re.findall(rf'crates/{crate}/(\S+?\.antt:\d+)\S*: error: `?([\w-]*)', run.stdout + run.stderr)
             word = 'taken' if run.returncode == 0 else 'no type' if any(e[0].startswith('specs/') for e in errors) else 'refused'
             counts[word] += 1
             if word != 'no type':

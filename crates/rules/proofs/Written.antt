@@ -7,7 +7,7 @@ use mathlib.Core.Bool.{Bool, true, false, cond, not, _&&_, and-true, and-false, 
 use mathlib.Core.Logic.{inl, inr}
 use mathlib.Core.List.{List, [], _∷_, map, zipWith, List·Memᴰ, Memᴰ·cast, Memᴰ·map, Memᴰ·of-map}
 use lib.Dec.{eqb, ltb}
-use borrow.Author.Tests.{eqb-false, ne-eqb, ltb-false}
+use borrow.Author.Tests.{eqb-true, eqb-false, ne-eqb, ltb-false}
 use Rattle.laws.proofs.Lists.{_∈_, not-true-false}
 use Rattle.wire.proofs.Values.{bytes-read, four-read}
 use Rattle.pressure.specs.Reference.{dropOf}
@@ -21,10 +21,10 @@ use Rattle.interval.specs.Judging.{judgedOf}
 use Rattle.places.specs.Places.{judgedHere}
 use Rattle.places.proofs.Held.{held-judged, judged-held}
 use Rattle.colours.specs.Numbers.{showingNumber, barNumber, modeNumber}
-use Rattle.colours.specs.Rows.{rows, holdsFor, passing, rowsFor, rowOf}
+use Rattle.colours.specs.Rows.{rows, isMet, holdsFor, passing, rowsFor, rowOf}
 use Rattle.colours.specs.declared.Showing.{Showing}
 use Rattle.colours.specs.declared.Row.{Row}
-use Rattle.colours.proofs.Claims.{one-row-holds}
+use Rattle.colours.proofs.Claims.{one-row-holds, row-listed}
 use Rattle.rules.specs.Numbers.{isAccepted, isState, orderNumber, bitNumber}
 use Rattle.rules.specs.Places.{anyOf}
 use Rattle.rules.specs.Speeds.{brakingOf, judgedNow, vmaxOf, permittedSpeed}
@@ -35,11 +35,11 @@ use Rattle.rules.specs.Reports.{causesNumber, messagesOf, wouldDrop, off
 use Rattle.rules.specs.Commands.{withLast, remembered, acceptedOf}
 use Rattle.rules.specs.BrakeTest.{isRunning, hasPassed, hasFailed}
 use Rattle.rules.specs.Runs.{Sent, answerTo, stateAfter, momentOf, stateAtEnd}
-use Rattle.rules.specs.History.{Tells, causesIn, permittedIn, vmaxIn, messagesIn, offeredIn}
+use Rattle.rules.specs.History.{Tells, causesIn, permittedIn, vmaxIn, shownIn, messagesIn, offeredIn}
 use Rattle.rules.specs.History.{isIn, Holds, intervalIn}
 use Rattle.rules.specs.Claims.{UpToSources}
 use Rattle.rules.specs.Columns.{IsFree}
-use Rattle.rules.specs.Written.{Largest, permits, UpToPermitted, Offers, WrittenInDA, ReportInDA, GoesFirst, ByRow, Shows, ShowsNone, ShownInDA, StateAndOrder, WrittenOutside, ReportOutsideDA, orderInTest, runsIn, MessagesTell, MessagesAreWritten}
+use Rattle.rules.specs.Written.{Largest, permits, UpToPermitted, Offers, WrittenInDA, ReportInDA, GoesFirst, ByRow, Shows, ShowsNone, ShownInDA, StateAndOrder, WrittenOutside, ReportOutsideDA, FromRow, EveryReportHasARow, orderInTest, runsIn, MessagesTell, MessagesAreWritten}
 use Rattle.rules.specs.declared.State.{State}
 use Rattle.rules.specs.declared.Cause.{Cause}
 use Rattle.rules.specs.declared.Causes.{Causes}
@@ -393,6 +393,30 @@ unfolding reportOf
 report-outside-da stm x e d =
     let after = stateAfter stm x in
     rw (written-is stm x e) (outside-da after (after .control .state) d)
+
+-- ---- the row of every report
+
+from-row : {past sufficient : Bool} {showing : Showing} {report : List ℕ} → ByRow past sufficient showing report
+    → shownIn report ≡ showingNumber showing → FromRow report
+unfolding holdsFor
+from-row {past} {sufficient} {showing} by e =
+    let (listed, holds) = row-listed past sufficient showing (by .row) (by .alone) in
+    let same = eqb (showingNumber showing) (showingNumber (by .row .showing)) in
+    let asked = both (same && isMet (by .row .past) past) (isMet (by .row .sufficient) sufficient) holds in
+    record {
+      row = by .row;
+      listed = listed;
+      interval = e ∙ eqb-true _ _ (both same (isMet (by .row .past) past) (asked .0) .0);
+      bar = by .bar;
+      mode = by .mode;
+    }
+
+pub every-report-has-a-row : EveryReportHasARow
+every-report-has-a-row stm x e = go (isIn State.DA (stateAfter stm x)) refl
+  where
+    go : (t : Bool) → isIn State.DA (stateAfter stm x) ≡ t → FromRow (momentOf stm x .area)
+    go true d = rw (written-is stm x e, in-da (stateAfter stm x) d) (from-row (by-row (stateAfter stm x) _ _ _ refl) refl)
+    go false d = let none = report-outside-da stm x e d .shown in from-row (none .colours true true) (none .interval)
 
 -- ---- the offer in a unit's report
 

@@ -3,7 +3,7 @@ use mathlib.Core.Path.{_≡_}
 use Prim.Native.Nat.{ℕ, max, _≤_, _<_}
 use mathlib.Core.Bool.{Bool, true, false, cond, not, _||_}
 use mathlib.Core.Logic.{_⊎_}
-use mathlib.Core.List.{List, [], _∷_, map, foldr}
+use mathlib.Core.List.{List, [], _∷_, map, foldr, List·Memᴰ}
 use lib.Dec.{leb}
 use Rattle.curve.specs.declared.Curve.{Curve}
 use Rattle.curve.specs.declared.Interval.{Interval}
@@ -13,8 +13,8 @@ use Rattle.interval.specs.Intervals.{rankOf, shownOf, shownNumber}
 use Rattle.interval.specs.Permitted.{permittedOf}
 use Rattle.curve.specs.Ground.{never}
 use Rattle.interval.specs.Changes.{toChange}
-use Rattle.colours.specs.Numbers.{barNumber, modeNumber}
-use Rattle.colours.specs.Rows.{rowsFor}
+use Rattle.colours.specs.Numbers.{showingNumber, barNumber, modeNumber}
+use Rattle.colours.specs.Rows.{rows, rowsFor}
 use Rattle.colours.specs.declared.Showing.{Showing}
 use Rattle.colours.specs.declared.Row.{Row}
 use Rattle.rules.specs.Numbers.{isAccepted, bitNumber}
@@ -187,6 +187,19 @@ ReportOutsideDA =
     (stm : Stm) (x : Sent)
     → isAccepted (answerTo stm x) ≡ true → isIn State.DA (stateAfter stm x) ≡ false
     → WrittenOutside (stateAfter stm x .control .state) (stateAfter stm x .test .stage) (momentOf stm x .area)
+
+-- ---- the row, in every state
+
+-- 02, F-4: bytes 9 to 11 are what a row of the table is for, its bar and its mode. Which row it is, `Shows` and `ShowsNone` tell
+pub record FromRow (report : List ℕ) : Type 0 where
+  pub row : Row
+  pub listed : List·Memᴰ row rows
+  pub interval : shownIn report ≡ showingNumber (row .showing)
+  pub bar : barIn report ≡ barNumber (row .bar)
+  pub mode : modeIn report ≡ modeNumber (row .mode)
+
+abbrev pub EveryReportHasARow : Type 0
+EveryReportHasARow = (stm : Stm) (x : Sent) → isAccepted (answerTo stm x) ≡ true → FromRow (momentOf stm x .area)
 
 -- ---- the messages, in every state
 
