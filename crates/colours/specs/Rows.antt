@@ -24,7 +24,8 @@ row showing past sufficient bar mode =
 abbrev pub noCurve : Row
 noCurve = row NoCurve Either Either Empty Normal
 
--- table 4.8-5, row by row, after the one for no curve; "the Conditional braking curve" is passed where the drop is insufficient
+-- table 4.8-5, row by row, after the one for no curve: shown, past permitted, drop sufficient; bar, mode. "The Conditional braking
+-- curve" is passed where the drop is insufficient
 unfoldable pub rows : List Row
 rows =
     noCurve
@@ -69,7 +70,7 @@ passing test (r ∷ rs) = cond (test r) (r ∷ passing test rs) (passing test rs
 unfoldable pub rowsFor : Bool → Bool → Showing → List Row
 rowsFor past sufficient showing = passing (holdsFor past sufficient showing) rows
 
--- the first of some rows
+-- the first of some rows, or that for no curve
 abbrev pub firstOf : List Row → Row
 firstOf [] = noCurve
 firstOf (r ∷ rs) = r
