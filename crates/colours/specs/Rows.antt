@@ -28,13 +28,15 @@ noCurve = row NoCurve Either Either Empty Normal
 -- curve" is passed where the drop is insufficient
 unfoldable pub rows : List Row
 rows =
+    -- no curve
     noCurve
     -- a) A
     ∷ row (Curve (Computed A)) Either Either Empty Normal
     -- b) Bf
     ∷ row (Curve (Computed Bf)) Either Either LightGrey PreIndication
-    -- c) Ab, B, "Before passing the Permitted curve"; Ab is one row, whatever the permitted boundary says
+    -- c) Ab: one row, whatever the permitted boundary says
     ∷ row (Curve Ab) Either Either Yellow Indication
+    -- c) B, "Before passing the Permitted curve"
     ∷ row (Curve (Computed B)) No Either Yellow Indication
     -- d) B, "After passing the Permitted curve"
     ∷ row (Curve (Computed B)) Yes Either Yellow Warning

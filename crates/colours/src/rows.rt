@@ -24,6 +24,7 @@ const NO_CURVE: Row = Row {
 
 // Table 4.8-5 of 001, row by row, after the one for no curve.
 const TABLE: [Row; ROWS] = [
+    // no curve
     NO_CURVE,
     // a) A
     Row {

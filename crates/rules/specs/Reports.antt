@@ -63,10 +63,11 @@ isOver train kept shown =
 -- the fields of what is shown: "shown id (255 none); interval (0 none ..); bar; mode"; 02, F-4: bar and mode of the row that holds
 unfoldable pub shownFields : Bool → Bool → Candidate → List ℕ
 shownFields over insufficient shown =
+    let row = rowOf over (not insufficient) (showingOf shown) in
     cond (shown .judged .held) (shown .curve .id) 255
     ∷ showingNumber (showingOf shown)
-    ∷ barNumber (rowOf over (not insufficient) (showingOf shown) .bar)
-    ∷ modeNumber (rowOf over (not insufficient) (showingOf shown) .mode)
+    ∷ barNumber (row .bar)
+    ∷ modeNumber (row .mode)
     ∷ []
 
 -- 02, F-1: "The report gains four bytes at its end with this for the shown curve, FFFFFFFF where none is shown"

@@ -1,5 +1,5 @@
 -- `colours::rows::first_row` meets its contract.
-use Prim.Native.Nat.{_-_}
+use Prim.Native.Nat.{ℕ, _-_}
 use mathlib.Core.Path.{refl, sym, _∙_}
 use native.Mathlib.Omega.{arith}
 use borrow.Author.Needs.{needs}
@@ -8,11 +8,15 @@ use Rattle.colours.proofs.Looking.{Looked, look-here, look-on, look-pas
 use Rattle.colours.proofs.rows.first_row.Statement.{statement}
 use Rattle.colours.proofs.rows.first_row.Tie as tie
 
+-- how many rows the table has
+abbrev count : ℕ
+count = 11
+
 abbrev Inv-loop : tie.InvT-loop
-Inv-loop past sufficient showing table i₀ i = Looked (holdsFor past sufficient showing) table 11 i
+Inv-loop past sufficient showing table i₀ i = Looked (holdsFor past sufficient showing) table count i
 
 abbrev μ-loop : tie.MeasureT-loop
-μ-loop past sufficient showing table i₀ i = 11 - i
+μ-loop past sufficient showing table i₀ i = count - i
 
 loop-holds : tie.Need-loop-holds Inv-loop μ-loop
 loop-holds c = (omega arith, search needs, refl)
@@ -30,7 +34,7 @@ returns : tie.Need-returns Inv-loop μ-loop
 returns c =
     let o = c .before .before .before .before in
     let a = o .before .args in
-    look-here (holdsFor (a .past) (a .sufficient) (a .showing)) (a .t4) 11 (o .loop .inv) (omega arith)
+    look-here (holdsFor (a .past) (a .sufficient) (a .showing)) (a .t4) count (o .loop .inv) (omega arith)
     (sym (c .before .holds-for .ensures) ∙ c .if1 .taken)
 
 add-i : tie.Need-add-i Inv-loop μ-loop
@@ -43,14 +47,14 @@ loop-again : tie.Need-loop-again Inv-loop μ-loop
 loop-again c =
     let o = c .before .before .before .before in
     let a = o .before .args in
-    look-on (holdsFor (a .past) (a .sufficient) (a .showing)) (a .t4) 11 (o .loop .inv) (omega arith)
+    look-on (holdsFor (a .past) (a .sufficient) (a .showing)) (a .t4) count (o .loop .inv) (omega arith)
     (sym (c .before .holds-for .ensures) ∙ c .if1 .left)
 
 returns-2 : tie.Need-returns-2 Inv-loop μ-loop
 returns-2 c =
     let o = c .before in
     let a = o .before .args in
-    look-past (holdsFor (a .past) (a .sufficient) (a .showing)) (a .t4) 11 (o .loop .inv) (omega arith)
+    look-past (holdsFor (a .past) (a .sufficient) (a .showing)) (a .t4) count (o .loop .inv) (omega arith)
 
 pub first-row-spec : {M : Type 1} → statement M
 first-row-spec =
