@@ -12,15 +12,10 @@ fn put(text: &[u8]) {
     io::write_all(1, text);
 }
 
-fn digit(x: u8) -> u8 {
-    let low = x % 16;
-    if low < 10 { low + 48 } else { low + 55 }
-}
-
 fn put_bytes(bytes: &[u8]) {
     let mut i = 0;
     while i < bytes.len() {
-        put(&[digit(bytes[i] / 16), digit(bytes[i])]);
+        put(&[wire::digit(bytes[i] / 16), wire::digit(bytes[i])]);
         i += 1;
     }
 }

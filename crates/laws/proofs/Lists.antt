@@ -2,7 +2,7 @@
 use Prim.Native.Nat.{ℕ, zero, suc, _+_, _<_, _≤_}
 use mathlib.Core.Path.{_≡_, refl, sym, ap}
 use mathlib.Core.Bool.{Bool, true, false, cond, not, false≢true}
-use mathlib.Core.List.{List, [], _∷_, _++_, map, zipWith, append-nil, List·Memᴰ, List·Memᴰ·head, List·Memᴰ·tail, List·Memᴰ·not-nil}
+use mathlib.Core.List.{List, [], _∷_, _++_, map, zipWith, flatten, append-nil, append-assoc, List·Memᴰ, List·Memᴰ·head, List·Memᴰ·tail, List·Memᴰ·not-nil}
 use native.Mathlib.Nat.{le-of-lt, le-of-suc-le-suc, not-suc-le-zero, suc-inj, suc-ne-zero}
 use native.Mathlib.Omega.{arith}
 use native.Mathlib.Numerals.{add-one}
@@ -96,6 +96,12 @@ zip-step f xs ys t i a b e same h k =
 -- the rest of a list from a place on, by its first element
 pub drop-step : {A : Type 0} (l : List A) (i : ℕ) (d : A) → i < length l → drop i l ≡ getD l i d ∷ drop (i + 1) l
 drop-step l i d h = rw add-one (drop-cons l i d h)
+
+-- lists of lists, joined
+pub flatten-joined : {A : Type 0} (ps qs : List (List A)) → flatten (ps ++ qs) ≡ flatten ps ++ flatten qs
+unfolding flatten
+flatten-joined [] qs = refl
+flatten-joined (p ∷ ps) qs = rw (flatten-joined ps qs, append-assoc)
 
 -- no number stands twice
 abbrev other : ℕ → ℕ → Bool

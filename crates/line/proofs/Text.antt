@@ -8,7 +8,8 @@ use native.Mathlib.Numerals.{add-one}
 use lib.ListN.{length, length-set, take, drop, set, getD, replicate}
 use lib.Seq.{take-suc, take-suc-set, drop-drop, drop-set-lt}
 use borrow.Author.Tests.{lt-ltb, le-ltb}
-use Rattle.line.specs.Lines.{digitOf, decimalOf, hexOf}
+use Rattle.wire.specs.Text.{digitOf}
+use Rattle.line.specs.Lines.{decimalOf, hexOf}
 
 -- one byte and two bytes written at a place
 pub put-one : (l : List ℕ) (i x : ℕ) → i < length l → take (i + 1) (set l i x) ≡ take i l ++ (x ∷ [])

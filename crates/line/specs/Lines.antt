@@ -5,12 +5,9 @@ use mathlib.Core.Bool.{cond}
 use mathlib.Core.List.{List, [], _∷_, _++_}
 use lib.Dec.{ltb}
 use Rattle.wire.specs.Form.{reportLength}
+use Rattle.wire.specs.Text.{digitOf, space, lineFeed}
 use Rattle.rules.specs.Numbers.{answerNumber, isAnswered}
 use Rattle.rules.specs.declared.Answer.{Answer}
-
--- a digit up to 15 in ASCII: 0 to 9, then capital A to F
-abbrev pub digitOf : ℕ → ℕ
-digitOf x = cond (ltb x 10) (x + 48) (x + 55)
 
 -- a number of up to three digits
 unfoldable pub decimalOf : ℕ → List ℕ
@@ -24,16 +21,9 @@ unfoldable pub hexOf : List ℕ → List ℕ
 hexOf [] = []
 hexOf (byte ∷ bytes) = digitOf (byte / 16) ∷ digitOf (byte % 16) ∷ hexOf bytes
 
--- space and line feed
-abbrev pub space : ℕ
-space = 32
-
 -- the bytes that a report takes in a line
 abbrev pub reportWidth : ℕ
 reportWidth = 1 + 2 * reportLength
-
-abbrev pub lineFeed : ℕ
-lineFeed = 10
 
 unfoldable pub lineOf : Answer → List ℕ → List ℕ
 lineOf answer report =

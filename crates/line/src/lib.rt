@@ -2,26 +2,21 @@
 ghost use mathlib.Core.Path.{_≡_};
 ghost use mathlib.Core.Bool.{cond};
 ghost use mathlib.Core.List.{_∷_, [], _++_};
-ghost use Prim.Native.Nat.{_+_, _<_, _≤_};
+ghost use Prim.Native.Nat.{_+_, _≤_};
 ghost use lib.ListN.{length, take, drop};
 ghost use Rattle.wire.specs.Bytes.{placed};
+ghost use Rattle.wire.specs.Text.{space};
 ghost use Rattle.rules.specs.Numbers.{isAnswered};
-ghost use Rattle.line.specs.Lines.{digitOf, decimalOf, hexOf, space, reportWidth, lineWidth, lineIn};
+ghost use Rattle.line.specs.Lines.{decimalOf, hexOf, reportWidth, lineWidth, lineIn};
 use rules::Answer;
 use wire::REPORT_LENGTH;
+use wire::digit;
 
 // The bytes that a report takes in a line: a space, and two digits for each of its own.
 const REPORT_WIDTH: usize = 1 + 2 * REPORT_LENGTH;
 
 // The most bytes that a line has: three digits, a report, a line feed.
 pub const WIDTH: usize = 3 + REPORT_WIDTH + 1;
-
-fn digit(x: u8) -> u8
-    requires { ⌜ x < 16 ⌝ }
-    ensures { λ r. ⌜ r ≡ digitOf x ⌝ }
-{
-    if x < 10 { x + 48 } else { x + 55 }
-}
 
 // Writes a decimal number at the front, and tells how many digits it has.
 fn put_number(bytes: &mut [u8], n: u8) -> usize

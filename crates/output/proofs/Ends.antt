@@ -21,7 +21,8 @@ use Rattle.rules.specs.Refusals.{wholeAnswer, answerFor, answerOf}
 use Rattle.rules.specs.Calls.{callOf}
 use Rattle.rules.specs.declared.Answer.{Answer}
 use Rattle.rules.specs.declared.Stm.{Stm}
-use Rattle.line.specs.Lines.{lineOf, decimalOf, lineFeed}
+use Rattle.wire.specs.Text.{lineFeed}
+use Rattle.line.specs.Lines.{lineOf, decimalOf}
 use Rattle.output.specs.Claims.{endLine, EndsAsSaid}
 use Rattle.output.specs.Streams.{lines, streamOf}
 use Rattle.output.proofs.Promises.{lines-from}

@@ -1,5 +1,4 @@
 pub mod Ends
 pub mod Example
+pub mod Handing
 pub mod Promises
-pub mod Rooms
-pub mod Turns

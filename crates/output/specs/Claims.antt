@@ -8,13 +8,14 @@ use lib.ListN.{length, take, drop}
 use Rattle.wire.specs.Bytes.{placed}
 use Rattle.wire.specs.Form.{reportLength, refusalTo}
 use Rattle.wire.specs.Split.{restRefusal}
+use Rattle.wire.specs.Text.{lineFeed}
 use Rattle.portions.specs.Portions.{givenOf, portionsOf}
-use Rattle.portions.specs.Reads.{Standing, textBy, atFirst, turnOf, afterReads, afterEnd}
+use Rattle.portions.specs.Reads.{Standing, textBy, atFirst, turnOf, afterReads, afterEnd, inputRoom}
 use Rattle.rules.specs.Commands.{freshStm}
 use Rattle.rules.specs.Runs.{moments, send}
 use Rattle.rules.specs.declared.Stm.{Stm}
-use Rattle.line.specs.Lines.{decimalOf, lineFeed}
-use Rattle.output.specs.Streams.{lineAt, lines, streamOf, handedOn, givenIn, inputRoom, outputRoom}
+use Rattle.line.specs.Lines.{decimalOf}
+use Rattle.output.specs.Streams.{lineAt, lines, streamOf, handedOn, givenIn, outputRoom}
 
 -- the output is a line for each moment of the run of the portions: all that is promised of runs holds of it
 abbrev pub LinesOfMoments : Type 0

@@ -1,15 +1,9 @@
 -- The example of 01, as bytes in and bytes out; each report has F-1's four bytes at its end (02).
 use Prim.Native.Nat.{ℕ}
-use Prim.Native.Char.{code}
-use Prim.Native.String.{String, [] as no-text, _∷_ as _then_}
 use mathlib.Core.Path.{_≡_}
 use mathlib.Core.List.{List, [], _∷_, _++_}
+use Rattle.wire.specs.Text.{ascii}
 use Rattle.output.specs.Streams.{streamOf}
-
--- a text in ASCII
-abbrev pub ascii : String → List ℕ
-ascii no-text = []
-ascii (c then text) = code c ∷ ascii text
 
 -- "Input 01 00000001 00 00A0 0190 02BC 01F4 1E 14 14 1E 0A 0F 32 017C 0D"
 abbrev start : List ℕ

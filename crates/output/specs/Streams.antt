@@ -5,11 +5,11 @@ use mathlib.Core.List.{List, flatten}
 use lib.ListN.{length}
 use Rattle.wire.specs.Codes.{shortest}
 use Rattle.portions.specs.Portions.{Given, givenWithin, portionsOf}
-use Rattle.portions.specs.Reads.{Writer, textBy, stateBy}
+use Rattle.portions.specs.Reads.{Writer, textBy, stateBy, inputRoom}
 use Rattle.rules.specs.Commands.{freshStm}
 use Rattle.rules.specs.Runs.{Moment, momentOf, stateAfter, send}
 use Rattle.rules.specs.declared.Stm.{Stm}
-use Rattle.line.specs.Lines.{lineOf, lineIn, lineWidth}
+use Rattle.line.specs.Lines.{lineOf, lineWidth}
 use Rattle.output.specs.declared.Handed.{Handed}
 
 -- "prints, a line each, the answer and, if accepted or again, a space and the report"
@@ -24,10 +24,6 @@ lines = record { next = λ stm portion. stateAfter stm (send portion); text = λ
 unfoldable pub streamOf : List ℕ → List ℕ
 streamOf input = textBy lines freshStm (portionsOf input)
 
--- the line of one portion where so many bytes of room are for it
-abbrev pub lineTold : ℕ → Stm → List ℕ → List ℕ
-lineTold room stm portion = lineIn room (momentOf stm (send portion) .answer) (momentOf stm (send portion) .area)
-
 -- what has come of portions that are handed to a unit: its state, the bytes used, those written, and whether the stream has ended
 unfoldable pub handedOn : Stm → Given → Handed
 handedOn stm given = record {
@@ -41,9 +37,6 @@ handedOn stm given = record {
 abbrev pub givenIn : ℕ → Bool → List ℕ → Given
 givenIn room all bytes = givenWithin (room / lineWidth) all bytes
 
--- the bytes of input and of output that the program has room for
-abbrev pub inputRoom : ℕ
-inputRoom = 16384
-
+-- the bytes of output that the program has room for
 abbrev pub outputRoom : ℕ
 outputRoom = (inputRoom / shortest + 2) * lineWidth

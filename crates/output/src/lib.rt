@@ -8,15 +8,12 @@ ghost use lib.ListN.{length, take};
 ghost use Rattle.wire.specs.Bytes.{placed};
 ghost use Rattle.portions.specs.Portions.{givenOf};
 ghost use Rattle.portions.specs.Reads.{textBy};
-ghost use Rattle.rules.specs.Runs.{stateAfter, send};
 ghost use Rattle.line.specs.Lines.{lineWidth};
-ghost use Rattle.output.specs.Streams.{lines, lineTold, handedOn, givenIn};
+ghost use Rattle.output.specs.Streams.{lines, handedOn, givenIn};
+use portions::INPUT;
 use rules::Stm;
 use wire::REPORT_LENGTH;
 use wire::SHORTEST;
-
-// The bytes of input that the program has room for.
-pub const INPUT: usize = 16384;
 
 // The bytes of output: lines for as many commands as the input can hold, for a rest after them, and one to find no more.
 pub const OUTPUT: usize = (INPUT / SHORTEST + 2) * line::WIDTH;
@@ -37,10 +34,11 @@ struct Told {
 
 // Hands one portion to the unit, and puts its line at the front of the room.
 fn tell(stm: Stm, portion: &[u8], room: &mut [u8]) -> Told
-    ensures { λ r. ⌜ r .stm ≡ stateAfter stm (send (now (portion .entry))) ⌝ }
-    ensures { λ r. ⌜ r .written ≡ length (lineTold (length (now (room .entry))) stm (now (portion .entry))) ⌝ }
+    requires { ⌜ lineWidth ≤ length (now room) ⌝ }
+    ensures { λ r. ⌜ r .stm ≡ lines .next stm (now (portion .entry)) ⌝ }
+    ensures { λ r. ⌜ r .written ≡ length (lines .text stm (now (portion .entry))) ⌝ }
     ensures { λ r. ⌜ r .written ≤ lineWidth ⌝ }
-    ensures { λ _. ⌜ now (room .exit) ≡ placed (lineTold (length (now (room .entry))) stm (now (portion .entry))) (now (room .entry)) ⌝ }
+    ensures { λ _. ⌜ now (room .exit) ≡ placed (lines .text stm (now (portion .entry))) (now (room .entry)) ⌝ }
 {
     let mut report = [255u8; REPORT_LENGTH];
     let outcome = unit::call(stm, portion, &mut report);

@@ -12,7 +12,7 @@ use Rattle.portions.specs.Claims.{NothingLost, EmptyEnds, AnyRoom, Waits
 use Rattle.wire.specs.Codes.{shortest, longest}
 use Rattle.portions.specs.Portions.{portionAt, nextPortion, portionLength, isLast, Given, given, givenBy, givenWithin, givenOf, leftOf}
 use Rattle.wire.specs.Split.{nextCommand}
-use Rattle.laws.proofs.Lists.{never}
+use Rattle.laws.proofs.Lists.{never, flatten-joined}
 use Rattle.wire.proofs.Commands.{command-stays, no-code-first, no-code-stays, short-length, end-length, command-length}
 
 -- ---- the next portion
@@ -279,11 +279,6 @@ all-within (suc k) s h = by (ways true s) (λ n g. all-within k (drop n s) g)
 
 pub all-ended : (s : List ℕ) → givenOf true s .ended ≡ true
 all-ended s = all-within (suc (length s)) s (omega arith)
-
-flatten-joined : (ps qs : List (List ℕ)) → flatten (ps ++ qs) ≡ flatten ps ++ flatten qs
-unfolding flatten
-flatten-joined [] qs = refl
-flatten-joined (p ∷ ps) qs = rw (flatten-joined ps qs, append-assoc)
 
 -- the bytes that are not given, before and after a read
 pub left-joined : (all : Bool) (s t : List ℕ) → givenOf false s .ended ≡ false → leftOf all (s ++ t) ≡ leftOf all (leftOf false s ++ t)

@@ -3,3 +3,5 @@ pub mod Giving
 pub mod Handing
 pub mod Parts
 pub mod Reading
+pub mod Rooms
+pub mod Turns

@@ -5,6 +5,10 @@ use mathlib.Core.Bool.{Bool, true, false, cond}
 use mathlib.Core.List.{List, [], _∷_, _++_}
 use Rattle.portions.specs.Portions.{givenOf, leftOf}
 
+-- the bytes of input that a program has room for
+abbrev pub inputRoom : ℕ
+inputRoom = 16384
+
 pub record Writer (X : Type 0) : Type 0 where
   pub next : X → List ℕ → X
   pub text : X → List ℕ → List ℕ

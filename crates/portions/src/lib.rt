@@ -4,6 +4,9 @@
 mod bytes;
 mod next;
 
+// The bytes of input that a program has room for.
+pub const INPUT: usize = 16384;
+
 pub use bytes::part;
 pub use bytes::to_front;
 pub use next::Portion;

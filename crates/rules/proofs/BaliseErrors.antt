@@ -13,6 +13,7 @@ use borrow.Author.Tests.{eqb-true, le-leb, lt-leb, leb-false, not-true}
 use Rattle.laws.proofs.Lists.{not-true-false}
 use Rattle.wire.specs.Numbers.{byteAt}
 use Rattle.wire.specs.Form.{operandsOf}
+use Rattle.wire.specs.Report.{offeredIn}
 use Rattle.rules.specs.Numbers.{codeOf, isState, isAccepted, bitNumber}
 use Rattle.rules.specs.Operands.{codeByte, readingOf, bitOf}
 use Rattle.rules.specs.Hold.{decidedAt, heldOn, isUnheld}
@@ -21,7 +22,7 @@ use Rattle.rules.specs.Releases.{freshBrakes, sinceAt, notedBrakes, sinc
 use Rattle.rules.specs.Odometer.{seenWith, seenOf, seenIn, moves, measures, notes}
 use Rattle.rules.specs.Reports.{reportOf}
 use Rattle.rules.specs.Runs.{Sent, answerTo, stateAfter, stateAtEnd, noneAccepted, isOf, freshens}
-use Rattle.rules.specs.History.{Tells, speedOf, offeredIn, isIn, isSupervised, collected}
+use Rattle.rules.specs.History.{Tells, speedOf, isIn, isSupervised, collected}
 use Rattle.rules.specs.Braking.{readingIn, measuredAt, seenAt, orderedNow, releasableNow, freshlyPressed}
 use Rattle.rules.specs.Columns.{IsLow, UnheldWhen, FreedWhen}
 use Rattle.rules.specs.BaliseErrors.{resetsHold, Reported, IsHigh, reportsOver, BaliseStands, Presses, HoldEnded, StandsAlone}

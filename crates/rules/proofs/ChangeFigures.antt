@@ -3,6 +3,7 @@ use mathlib.Core.Path.{_≡_, refl, _∙_, ap}
 use Prim.Native.Nat.{ℕ}
 use mathlib.Core.Bool.{true, cond}
 use mathlib.Core.List.{List, [], _∷_}
+use Rattle.wire.specs.Report.{changeIn}
 use Rattle.wire.proofs.Values.{four-read}
 use Rattle.curve.specs.Ground.{never}
 use Rattle.interval.specs.Intervals.{intervalOf}
@@ -11,7 +12,7 @@ use Rattle.rules.specs.Numbers.{isAccepted}
 use Rattle.rules.specs.Speeds.{brakingOf}
 use Rattle.rules.specs.Reports.{changeOf}
 use Rattle.rules.specs.Runs.{Sent, answerTo, stateAfter, momentOf}
-use Rattle.rules.specs.History.{changeIn, isIn}
+use Rattle.rules.specs.History.{isIn}
 use Rattle.rules.specs.Tables.{Command, sent, further, report, curve, curveEnd}
 use Rattle.rules.specs.Cases.{fastTrain, startedInDA, halka, everyField}
 use Rattle.rules.specs.ChangeFigures.{writtenBy, trainInDA, to40, leaving, ChangeFigures}

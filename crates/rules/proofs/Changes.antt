@@ -11,6 +11,7 @@ use borrow.Author.Tests.{eq-eqb, leb-true}
 use Rattle.laws.proofs.Lists.{_∈_}
 use Rattle.wire.specs.Numbers.{byteAt}
 use Rattle.wire.specs.Form.{operandsOf}
+use Rattle.wire.specs.Report.{changeIn}
 use Rattle.curve.specs.Deceleration.{levelOf}
 use Rattle.interval.specs.Intervals.{intervalOf}
 use Rattle.curve.specs.Ground.{movedBy}
@@ -24,7 +25,7 @@ use Rattle.rules.specs.Places.{freeCurve}
 use Rattle.rules.specs.Speeds.{brakingOf}
 use Rattle.rules.specs.Odometer.{moves, measures, notes}
 use Rattle.rules.specs.Runs.{Sent, stateAfter, momentOf}
-use Rattle.rules.specs.History.{movedOf, changeIn, isReport, isIn, curveAt, brakingIn}
+use Rattle.rules.specs.History.{movedOf, isReport, isIn, curveAt, brakingIn}
 use Rattle.rules.specs.Units.{differ, IsUnit}
 use Rattle.rules.specs.Braking.{measuredAt}
 use Rattle.rules.specs.Changes.{intervalAt, ShownAt, GoesOn, NextChangeIsTold}

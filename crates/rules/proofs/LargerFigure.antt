@@ -5,9 +5,9 @@ use native.Mathlib.Nat.{le-refl}
 use native.Mathlib.Bridge.{IsLe, le-by-compare}
 use native.Mathlib.Omega.{arith}
 use mathlib.Core.Bool.{true, false, false≢true}
+use Rattle.wire.specs.Report.{changeIn}
 use Rattle.places.specs.Places.{places}
 use Rattle.rules.specs.Runs.{Sent, momentOf, stateAtEnd}
-use Rattle.rules.specs.History.{changeIn}
 use Rattle.rules.specs.TwoRuns.{Compared, FigureMayBeLarger}
 use Rattle.rules.specs.Figures.{odometer}
 use Rattle.rules.specs.Pairs.{in434, in433, changePair}

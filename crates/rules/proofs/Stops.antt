@@ -10,6 +10,7 @@ use borrow.Author.Tests.{eqb-true, eq-eqb}
 use Rattle.laws.proofs.Lists.{not-true-false}
 use Rattle.wire.specs.Numbers.{byteAt}
 use Rattle.wire.specs.Form.{operandsOf}
+use Rattle.wire.specs.Report.{offeredIn}
 use Rattle.rules.specs.Numbers.{codeOf, isAccepted, bitNumber}
 use Rattle.rules.specs.Operands.{codeByte, readingOf, bitOf}
 use Rattle.rules.specs.Table.{causes, stands, orderedBy, isStop, isReleasable, releasableWhen}
@@ -17,7 +18,7 @@ use Rattle.rules.specs.Releases.{isHalt, isBraked, sinceAt, sinceBy, bra
 use Rattle.rules.specs.Reports.{reportOf}
 use Rattle.rules.specs.Commands.{stopped}
 use Rattle.rules.specs.Runs.{Sent, answerTo, stateAfter, stateAtEnd, noneAccepted, isOf, freshens}
-use Rattle.rules.specs.History.{firstOperand, isIn, isSupervised, isHalting, isBraking, passesStop, offeredIn}
+use Rattle.rules.specs.History.{firstOperand, isIn, isSupervised, isHalting, isBraking, passesStop}
 use Rattle.rules.specs.Braking.{readingIn, seenAt, releasableNow}
 use Rattle.rules.specs.Columns.{FreedWhen}
 use Rattle.rules.specs.Stops.{FreedSince, AimedStopWantsHalt, UnexpectedStopWantsBraking, LandslideWantsHalt}

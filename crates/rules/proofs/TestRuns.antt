@@ -12,6 +12,7 @@ use lib.ListN.{length}
 use borrow.Author.Tests.{lt-ltb, ne-eqb, not-true, eqb-true}
 use Rattle.wire.specs.declared.form.Form.{Form}
 use Rattle.wire.specs.Form.{formOf, operandsOf}
+use Rattle.wire.specs.Report.{orderIn, messagesIn}
 use Rattle.pressure.specs.declared.Measured.{Measured}
 use Rattle.pressure.specs.Convert.{halvedOf, isLow, isHigh, sensorFault, pressureOf}
 use Rattle.pressure.specs.Reference.{dropOf}
@@ -25,7 +26,7 @@ use Rattle.rules.specs.Reports.{reportOutside, reportFor, reportOf}
 use Rattle.rules.specs.Refusals.{isStart, isRepeat, isNext, endsNothing, findsNoPlace, testsOutside, testsTwice, firstOf, rulesFor, wholeAnswer, answerFor, answerOf}
 use Rattle.rules.specs.Calls.{callOf}
 use Rattle.rules.specs.Runs.{Sent, answerTo, stateAfter, stateAtEnd, noneAccepted, isOf}
-use Rattle.rules.specs.History.{firstOperand, speedOf, externalOf, orderIn, messagesIn, isIn, isReport, collected, standsThrough}
+use Rattle.rules.specs.History.{firstOperand, speedOf, externalOf, isIn, isReport, collected, standsThrough}
 use Rattle.rules.specs.Braking.{readingIn}
 use Rattle.rules.specs.Written.{orderInTest, runsIn, MessagesTell}
 use Rattle.rules.specs.Units.{isExtraSound, StageSound}

@@ -3,9 +3,9 @@ use Prim.Native.Nat.{ℕ, _≤_}
 use mathlib.Core.Path.{sym, subst}
 use mathlib.Core.List.{List, _∷_}
 use native.Mathlib.Nat.{le-refl}
+use Rattle.wire.specs.Report.{permittedIn, orderIn}
 use Rattle.wire.proofs.Values.{bytes-read}
 use Rattle.rules.specs.Reports.{two, reportWith, reportInDA, reportOutside, reportFor, reportOf}
-use Rattle.rules.specs.History.{permittedIn, orderIn}
 use Rattle.rules.specs.declared.State.{State}
 use Rattle.rules.specs.declared.Stm.{Stm}
 use Rattle.rules.proofs.TwoSpeeds.{permitted-no-higher}

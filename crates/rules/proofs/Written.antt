@@ -8,6 +8,7 @@ use mathlib.Core.Logic.{inl, inr}
 use mathlib.Core.List.{List, [], _∷_, map, zipWith, List·Memᴰ, Memᴰ·cast, Memᴰ·map, Memᴰ·of-map}
 use lib.Dec.{eqb, ltb}
 use borrow.Author.Tests.{eqb-true, eqb-false, ne-eqb, ltb-false}
+use Rattle.wire.specs.Report.{causesIn, permittedIn, vmaxIn, shownIn, messagesIn, offeredIn}
 use Rattle.laws.proofs.Lists.{_∈_, not-true-false}
 use Rattle.wire.proofs.Values.{bytes-read, four-read}
 use Rattle.pressure.specs.Reference.{dropOf}
@@ -35,7 +36,7 @@ use Rattle.rules.specs.Reports.{causesNumber, messagesOf, wouldDrop, off
 use Rattle.rules.specs.Commands.{withLast, remembered, acceptedOf}
 use Rattle.rules.specs.BrakeTest.{isRunning, hasPassed, hasFailed}
 use Rattle.rules.specs.Runs.{Sent, answerTo, stateAfter, momentOf, stateAtEnd}
-use Rattle.rules.specs.History.{Tells, causesIn, permittedIn, vmaxIn, shownIn, messagesIn, offeredIn}
+use Rattle.rules.specs.History.{Tells}
 use Rattle.rules.specs.History.{isIn, Holds, intervalIn}
 use Rattle.rules.specs.Claims.{UpToSources}
 use Rattle.rules.specs.Columns.{IsFree}

@@ -5,11 +5,12 @@ use mathlib.Core.Bool.{Bool, true, false, _||_}
 use mathlib.Core.List.{List}
 use lib.Dec.{eqb}
 use lib.ListN.{length}
+use Rattle.wire.specs.Report.{offeredIn}
 use Rattle.rules.specs.Numbers.{bitNumber, isAccepted}
 use Rattle.rules.specs.Operands.{bitOf}
 use Rattle.rules.specs.Table.{stands}
 use Rattle.rules.specs.Runs.{Sent, answerTo, stateAfter, stateAtEnd, noneAccepted, isOf, freshens}
-use Rattle.rules.specs.History.{Tells, speedOf, buttonOf, offeredIn, isIn, isSupervised, collected}
+use Rattle.rules.specs.History.{Tells, speedOf, buttonOf, isIn, isSupervised, collected}
 use Rattle.rules.specs.Columns.{IsLow}
 use Rattle.rules.specs.declared.Code.{Code}
 use Rattle.rules.specs.declared.State.{State}

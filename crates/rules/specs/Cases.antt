@@ -7,12 +7,12 @@ use mathlib.Core.List.{List, [], _∷_, _++_, map, foldr}
 use lib.Dec.{eqb}
 use lib.ListN.{take, replicate}
 use Rattle.wire.specs.Bytes.{sameBytes}
+use Rattle.wire.specs.Report.{stateIn, orderIn, causesIn, permittedIn, vmaxIn, idIn, shownIn, barIn, modeIn, messagesIn, offeredIn}
 use Rattle.rules.specs.Numbers.{answerNumber}
 use Rattle.rules.specs.Places.{allOf}
 use Rattle.rules.specs.Commands.{freshStm}
 use Rattle.rules.specs.Runs.{send, Moment, momentOf, stateAfter}
-use Rattle.rules.specs.History.{sum, stateIn, orderIn, causesIn, permittedIn, vmaxIn, idIn, shownIn, barIn, modeIn}
-use Rattle.rules.specs.History.{messagesIn, offeredIn}
+use Rattle.rules.specs.History.{sum}
 use Rattle.rules.specs.Tables.{Command, start, state, report, curve, curveEnd, section, sectionEnd, stop, proceed}
 use Rattle.rules.specs.Tables.{baliseError, testBrakes, sent, further, halts, withReference}
 use Rattle.rules.specs.declared.Answer.{Answer}

@@ -2,9 +2,9 @@
 use mathlib.Core.Path.{_≡_}
 use Prim.Native.Nat.{ℕ, _+_, _-_, _/_, _%_}
 use mathlib.Core.List.{List, [], _∷_}
+use Rattle.wire.specs.Report.{changeIn}
 use Rattle.curve.specs.Ground.{never}
 use Rattle.rules.specs.Runs.{momentOf}
-use Rattle.rules.specs.History.{changeIn}
 use Rattle.rules.specs.Tables.{Command, sent, further, start, report, curve, curveEnd}
 use Rattle.rules.specs.Cases.{fastTrain, startedInDA, halka, everyField}
 use Rattle.rules.specs.declared.Stm.{Stm}

@@ -2,10 +2,11 @@
 use mathlib.Core.Path.{_≡_}
 use Prim.Native.Nat.{ℕ, suc, _≤_}
 use mathlib.Core.Bool.{true}
+use Rattle.wire.specs.Report.{idIn, changeIn}
 use Rattle.curve.specs.declared.Interval.{Interval}
 use Rattle.rules.specs.Numbers.{isAccepted}
 use Rattle.rules.specs.Runs.{Sent, answerTo, stateAfter, momentOf}
-use Rattle.rules.specs.History.{speedOf, movedOf, buttonOf, idIn, changeIn, isSupervised, curveAt, intervalIn}
+use Rattle.rules.specs.History.{speedOf, movedOf, buttonOf, isSupervised, curveAt, intervalIn}
 use Rattle.rules.specs.Units.{IsUnit}
 use Rattle.rules.specs.declared.Stm.{Stm}
 

@@ -4,13 +4,13 @@ use Prim.Native.Nat.{ℕ, zero, suc}
 use mathlib.Core.Bool.{Bool, true, _&&_}
 use mathlib.Core.List.{List, [], _∷_, _++_, foldr}
 use lib.Dec.{eqb}
+use Rattle.wire.specs.Report.{orderIn, causesIn, offeredIn}
 use Rattle.pressure.specs.Figures.{pressureFigures}
 use Rattle.interval.specs.Figures.{curveFigures}
 use Rattle.rules.specs.Numbers.{codeNumber, stateNumber}
 use Rattle.rules.specs.Reports.{two}
 use Rattle.rules.specs.Commands.{freshStm}
 use Rattle.rules.specs.Runs.{Sent, send, momentOf, stateAtEnd}
-use Rattle.rules.specs.History.{orderIn, causesIn, offeredIn}
 use Rattle.rules.specs.declared.Code.{Code}
 use Rattle.rules.specs.declared.State.{State}
 use Rattle.rules.specs.declared.Stm.{Stm}

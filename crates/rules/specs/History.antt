@@ -9,8 +9,8 @@ use lib.Dec.{eqb}
 use lib.Ieee.{Float, binary32, sub}
 use lib.IntN.{ℤ, pos, _*ℤ_}
 use lib.Signed.{leZ}
-use lib.ListN.{drop, getD}
-use Rattle.wire.specs.Numbers.{byteAt, number, signed}
+use lib.ListN.{getD}
+use Rattle.wire.specs.Numbers.{byteAt, signed}
 use Rattle.wire.specs.Form.{operandsOf}
 use Rattle.curve.specs.declared.Curve.{Curve}
 use Rattle.curve.specs.declared.Braking.{Braking}
@@ -52,45 +52,6 @@ externalOf command = signed 65536 (twoAt (operandsOf command) 6)
 -- "bit 0 LOSS, 1 text, 2 HALKA, 3 neutral"
 abbrev pub buttonOf : ℕ → List ℕ → Bool
 buttonOf bit command = bitOf bit (byteAt (operandsOf command) 8)
-
--- ---- the fields of a report ("Report")
-
-abbrev pub stateIn : List ℕ → ℕ
-stateIn report = byteAt report 0
-
-abbrev pub orderIn : List ℕ → ℕ
-orderIn report = byteAt report 1
-
-abbrev pub causesIn : List ℕ → ℕ
-causesIn report = number 2 (drop 2 report)
-
-abbrev pub permittedIn : List ℕ → ℕ
-permittedIn report = number 2 (drop 4 report)
-
-abbrev pub vmaxIn : List ℕ → ℕ
-vmaxIn report = number 2 (drop 6 report)
-
-abbrev pub idIn : List ℕ → ℕ
-idIn report = byteAt report 8
-
-abbrev pub shownIn : List ℕ → ℕ
-shownIn report = byteAt report 9
-
-abbrev pub barIn : List ℕ → ℕ
-barIn report = byteAt report 10
-
-abbrev pub modeIn : List ℕ → ℕ
-modeIn report = byteAt report 11
-
-abbrev pub messagesIn : List ℕ → ℕ
-messagesIn report = byteAt report 12
-
-abbrev pub offeredIn : List ℕ → ℕ
-offeredIn report = byteAt report 13
-
--- 02, F-1
-abbrev pub changeIn : List ℕ → ℕ
-changeIn report = number 4 (drop 14 report)
 
 -- ---- the commands that a promise asks about
 

@@ -5,11 +5,12 @@ use Prim.Native.Nat.{ℕ}
 use mathlib.Core.Bool.{Bool, true, false, not, _||_}
 use mathlib.Core.List.{List}
 use lib.Dec.{eqb}
+use Rattle.wire.specs.Report.{offeredIn}
 use Rattle.rules.specs.Numbers.{bitNumber, isAccepted}
 use Rattle.rules.specs.Operands.{bitOf}
 use Rattle.rules.specs.Table.{stands}
 use Rattle.rules.specs.Runs.{Sent, answerTo, stateAfter, stateAtEnd, noneAccepted, freshens}
-use Rattle.rules.specs.History.{isHalting, isBraking, passesStop, offeredIn}
+use Rattle.rules.specs.History.{isHalting, isBraking, passesStop}
 use Rattle.rules.specs.declared.Cause.{Cause}
 use Rattle.rules.specs.declared.Since.{Since}
 use Rattle.rules.specs.declared.Stm.{Stm}

@@ -11,6 +11,7 @@ use lib.ListN.{take, drop, replicate}
 use Rattle.wire.specs.Numbers.{number}
 use Rattle.wire.specs.Bytes.{sameBytes}
 use Rattle.wire.specs.Form.{operandsOf}
+use Rattle.wire.specs.Report.{stateIn}
 use Rattle.pressure.specs.declared.Feed.{Feed}
 use Rattle.curve.specs.declared.Kind.{Kind}
 use Rattle.curve.specs.declared.Direction.{Direction}
@@ -29,7 +30,7 @@ use Rattle.rules.specs.Table.{causesFor, orderOf}
 use Rattle.rules.specs.Reports.{two, causesNumber}
 use Rattle.rules.specs.Commands.{freshStm}
 use Rattle.rules.specs.Runs.{send, Sent, momentOf, answerTo, stateAfter}
-use Rattle.rules.specs.History.{stateIn, curveAt, sectionAt}
+use Rattle.rules.specs.History.{curveAt, sectionAt}
 use Rattle.rules.specs.Written.{Strength, strengths}
 use Rattle.rules.specs.declared.Answer.{Answer}
 use Rattle.rules.specs.declared.Code.{Code}

@@ -13,12 +13,13 @@ use Rattle.pressure.specs.Phases.{isSet}
 use Rattle.pressure.specs.Report.{freshFeedback}
 use Rattle.pressure.specs.Claims.{pressureUnset}
 use Rattle.wire.specs.Numbers.{byteAt}
+use Rattle.wire.specs.Report.{stateIn, orderIn, messagesIn}
 use Rattle.rules.specs.Numbers.{answerNumber, isAccepted}
 use Rattle.rules.specs.Operands.{bitOf, within}
 use Rattle.rules.specs.Places.{anyOf, allOf}
 use Rattle.rules.specs.Odometer.{withExtra}
 use Rattle.rules.specs.Runs.{Sent, Moment, answerTo, stateAfter, momentOf, moments, stateAtEnd, noneAccepted, isOf}
-use Rattle.rules.specs.History.{Tells, firstOperand, speedOf, externalOf, stateIn, orderIn, messagesIn, isIn, isReport, collected, standsThrough, brakingIn}
+use Rattle.rules.specs.History.{Tells, firstOperand, speedOf, externalOf, isIn, isReport, collected, standsThrough, brakingIn}
 use Rattle.rules.specs.Written.{runsIn}
 use Rattle.rules.specs.Units.{feedbackAfter, IsUnit}
 use Rattle.rules.specs.TwoRuns.{Both}

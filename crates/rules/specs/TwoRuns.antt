@@ -6,6 +6,7 @@ use mathlib.Core.List.{List, [], _∷_, map}
 use lib.ListN.{length, take, drop}
 use Rattle.wire.specs.Numbers.{byteAt}
 use Rattle.wire.specs.Form.{operandsOf}
+use Rattle.wire.specs.Report.{permittedIn, orderIn, changeIn}
 use Rattle.curve.specs.declared.Curve.{Curve}
 use Rattle.interval.specs.Intervals.{rankOf}
 use Rattle.curve.specs.Claims.{Stricter}
@@ -15,7 +16,7 @@ use Rattle.rules.specs.Places.{holdsCurve}
 use Rattle.rules.specs.Table.{stands}
 use Rattle.rules.specs.BrakeTest.{isRunning}
 use Rattle.rules.specs.Runs.{Sent, Moment, moments, isOf}
-use Rattle.rules.specs.History.{permittedIn, orderIn, changeIn, Holds, HoldsSection, intervalIn}
+use Rattle.rules.specs.History.{Holds, HoldsSection, intervalIn}
 use Rattle.rules.specs.Units.{IsUnit}
 use Rattle.rules.specs.declared.Code.{Code}
 use Rattle.rules.specs.declared.Cause.{Cause}

@@ -5,6 +5,7 @@ use mathlib.Core.Bool.{Bool, true, false, cond, not, _||_}
 use mathlib.Core.Logic.{_⊎_}
 use mathlib.Core.List.{List, [], _∷_, map, foldr, List·Memᴰ}
 use lib.Dec.{leb}
+use Rattle.wire.specs.Report.{stateIn, orderIn, causesIn, permittedIn, vmaxIn, idIn, shownIn, barIn, modeIn, messagesIn, offeredIn, changeIn}
 use Rattle.curve.specs.declared.Curve.{Curve}
 use Rattle.curve.specs.declared.Interval.{Interval}
 use Rattle.curve.specs.declared.Shown.{Shown}
@@ -21,7 +22,7 @@ use Rattle.rules.specs.Numbers.{isAccepted, bitNumber}
 use Rattle.rules.specs.Operands.{bitOf}
 use Rattle.rules.specs.Table.{stands}
 use Rattle.rules.specs.Runs.{Sent, answerTo, stateAfter, momentOf, stateAtEnd, noneAccepted, freshens}
-use Rattle.rules.specs.History.{Tells, stateIn, orderIn, causesIn, permittedIn, vmaxIn, idIn, shownIn, barIn, modeIn, messagesIn, offeredIn, changeIn}
+use Rattle.rules.specs.History.{Tells}
 use Rattle.rules.specs.History.{isIn, isSupervised, curveAt, Holds, brakingIn, intervalIn}
 use Rattle.rules.specs.Claims.{UpToSources}
 use Rattle.rules.specs.Ground.{namesCurve}

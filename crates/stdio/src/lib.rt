@@ -7,8 +7,8 @@ ghost use Prim.Native.Nat.{_≤_};
 ghost use lib.ListN.{length, take};
 ghost use lib.Seq.{slice};
 ghost use Rattle.wire.specs.Bytes.{placed};
-use output::INPUT;
 use output::OUTPUT;
+use portions::INPUT;
 
 // Reads into a buffer after the bytes that are left, and tells where the bytes end then. An input that has ended, and a read that
 // fails, bring none.
@@ -25,7 +25,7 @@ fn read_after(buffer: &mut [u8], left: usize) -> usize
     left
 }
 
-fn read(input: &mut [u8; INPUT], left: usize) -> usize
+pub fn read(input: &mut [u8; INPUT], left: usize) -> usize
     ensures { λ _. ⌜ take left (now (input .exit)) ≡ take left (now (input .entry)) ⌝ }
     ensures { λ r. ⌜ left ≤ r ⌝ }
 {
@@ -38,7 +38,7 @@ fn write(lines: &[u8; OUTPUT], written: usize) -> bool {
 }
 
 // Brings the bytes that are not used yet to the front, and tells how many they are.
-fn keep(input: &mut [u8; INPUT], used: usize, to: usize) -> usize
+pub fn keep(input: &mut [u8; INPUT], used: usize, to: usize) -> usize
     ensures { λ r. ⌜ r ≡ length (slice used to (now (input .entry))) ⌝ }
     ensures { λ _. ⌜ now (input .exit) ≡ placed (slice used to (now (input .entry))) (now (input .entry)) ⌝ }
 {

@@ -1,5 +1,5 @@
 // Commands as bytes, as 01 lays them out: the code table, refusals 1 to 4, the operand part, the next command of a
-// stream, numbers high byte first, and equal and copied bytes.
+// stream, numbers high byte first, equal and copied bytes, and digits in ASCII.
 //
 // No public function has a `requires`: each is defined at every input.
 mod bytes;
@@ -7,6 +7,7 @@ mod codes;
 mod form;
 mod numbers;
 mod split;
+mod text;
 
 pub use bytes::copy_whole;
 pub use bytes::same;
@@ -32,3 +33,4 @@ pub use numbers::signed8;
 pub use numbers::signed16;
 pub use split::Next;
 pub use split::next_command;
+pub use text::digit;

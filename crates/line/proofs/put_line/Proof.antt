@@ -9,7 +9,8 @@ use lib.Seq.{length-take-le, drop-set-lt}
 use borrow.Author.Needs.{needs}
 use borrow.Author.Tests.{lt-ltb, le-ltb}
 use Rattle.wire.specs.Bytes.{placed}
-use Rattle.line.specs.Lines.{lineOf, lineIn, lineFeed, lineWidth}
+use Rattle.wire.specs.Text.{lineFeed}
+use Rattle.line.specs.Lines.{lineOf, lineIn, lineWidth}
 use Rattle.line.proofs.Text.{put-one, drop-more}
 use Rattle.line.proofs.put_line.Statement.{statement}
 use Rattle.line.proofs.put_line.Tie as tie

@@ -10,7 +10,8 @@ use lib.ListN.{length, length-set, take, drop, set, getD}
 use lib.Seq.{take-all, drop-set-lt}
 use borrow.Author.Needs.{needs}
 use Rattle.wire.specs.Form.{reportLength}
-use Rattle.line.specs.Lines.{hexOf, space, reportWidth}
+use Rattle.wire.specs.Text.{space}
+use Rattle.line.specs.Lines.{hexOf, reportWidth}
 use Rattle.line.proofs.Text.{put-one, put-hex, behind-two, drop-more}
 use Rattle.line.proofs.put_report.Statement.{statement}
 use Rattle.line.proofs.put_report.Tie as tie

@@ -6,7 +6,8 @@ use lib.Dec.{eqb}
 use lib.ListN.{length, take, length-take}
 use borrow.Author.Needs.{needs}
 use Rattle.portions.specs.Portions.{givenOf}
-use Rattle.output.specs.Streams.{givenIn, inputRoom, outputRoom}
+use Rattle.portions.specs.Reads.{inputRoom}
+use Rattle.output.specs.Streams.{givenIn, outputRoom}
 use Rattle.output.proofs.Promises.{all-has-room}
 use Rattle.output.proofs.turn.Statement.{statement}
 use Rattle.output.proofs.turn.Tie as tie
