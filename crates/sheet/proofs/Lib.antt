@@ -1,6 +1,9 @@
+pub mod Adding
 pub mod Example
+pub mod Filled
 pub mod Growing
-pub mod Lines
+pub mod Letters
 pub mod Numerals
 pub mod Pages
 pub mod Printed
+pub mod Putting

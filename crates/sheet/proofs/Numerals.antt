@@ -4,7 +4,8 @@ use mathlib.Core.Path.{_≡_, refl, sym, ap, _∙_}
 use mathlib.Core.Bool.{Bool, true, false, cond, _&&_, _||_, and-eq-true-iff}
 use mathlib.Core.Logic.{_⊎_, inl, inr}
 use mathlib.Core.List.{List, [], _∷_, _++_, append-assoc, append-nil}
-use native.Mathlib.Nat.{pow-zero, pow-suc}
+use native.Mathlib.Nat.{add-zero, add-suc, pow-zero, pow-suc}
+use native.Mathlib.Numerals.{add-one}
 use native.Mathlib.Omega.{arith}
 use lib.Dec.{eqb, leb, ltb}
 use lib.ListN.{length, replicate, length-append, replicate-append-replicate}
@@ -95,16 +96,14 @@ module _ (base fill : ℕ) (nothing : valueOfSign fill ≡ 0) (small : (n : ℕ)
   leading-value : (columns n : ℕ) → n < base ^ columns → valueFrom base 0 (leading base fill columns n) ≡ n
   unfolding leading valueFrom
   leading-value zero n h = let one = pow-zero base in omega (arith, one, h)
-  leading-value (suc columns) n h = by (eqb n 0) refl
+  leading-value (suc columns) n h = by (eqb n 0) refl (leading-value columns (n / base) (divided columns n h))
     where
-      before : valueFrom base 0 (leading base fill columns (n / base)) ≡ n / base
-      before = leading-value columns (n / base) (divided columns n h)
-
-      by : (t : Bool) → eqb n 0 ≡ t → valueFrom base 0 (leading base fill columns (n / base) ++ (cond t fill (digitOf (n % base)) ∷ [])) ≡ n
-      by true e =
+      by : (t : Bool) → eqb n 0 ≡ t → valueFrom base 0 (leading base fill columns (n / base)) ≡ n / base
+          → valueFrom base 0 (leading base fill columns (n / base) ++ (cond t fill (digitOf (n % base)) ∷ [])) ≡ n
+      by true e before =
           let zero : n ≡ 0 = eqb-true n 0 e in
           value-last base 0 (leading base fill columns (n / base)) fill ∙ rw (before, nothing) (let w = whole n in omega (arith, w, zero))
-      by false e =
+      by false e before =
           value-last base 0 (leading base fill columns (n / base)) (digitOf (n % base))
           ∙ rw (before, digit-value (n % base) (small n)) (whole n)
 
@@ -123,7 +122,7 @@ hexadecimal-value = numeral-value 16 (digitOf 0) refl (λ n. omega arith) (λ n.
 -- ---- blanks before a number, and none in it
 
 blank-last : (n : ℕ) → replicate n space ++ (space ∷ []) ≡ replicate (suc n) space
-blank-last n = replicate-append-replicate n 1 space
+blank-last n = replicate-append-replicate n 1 space ∙ ap (λ k. replicate k space) (add-one n)
 
 leading-zero : (columns : ℕ) → leading 10 space columns 0 ≡ replicate columns space
 unfolding leading
@@ -136,12 +135,13 @@ unfolding leading
 leading-blanks blanks zero n h =
     let one = pow-zero 10 in
     let none : n ≡ 0 = omega (arith, one, h) in
-    rw none (leading-zero blanks ∙ sym (append-nil (replicate blanks space)))
+    rw (none, add-zero blanks) (leading-zero blanks ∙ sym (append-nil (replicate blanks space)))
 leading-blanks blanks (suc digits) n h =
     let p = pow-suc 10 digits in
     let before = leading-blanks blanks digits (n / 10) (omega (arith, p, h)) in
-    ap (λ l. l ++ (cond (eqb n 0) space (digitOf (n % 10)) ∷ [])) before
-    ∙ append-assoc (replicate blanks space) (leading 10 space digits (n / 10)) (cond (eqb n 0) space (digitOf (n % 10)) ∷ [])
+    rw (add-suc blanks digits)
+    (ap (λ l. l ++ (cond (eqb n 0) space (digitOf (n % 10)) ∷ [])) before
+    ∙ append-assoc (replicate blanks space) (leading 10 space digits (n / 10)) (cond (eqb n 0) space (digitOf (n % 10)) ∷ []))
 
 positive : (k : ℕ) → 1 ≤ 10 ^ k
 positive zero = let one = pow-zero 10 in omega (arith, one)
@@ -171,8 +171,9 @@ pub blank-before : BlankBefore
 unfolding numeral
 blank-before blanks more n h =
     let p = pow-suc 10 more in (
-      ap (λ l. l ++ (digitOf (n % 10) ∷ [])) (leading-blanks blanks more (n / 10) (omega (arith, p, h)))
-          ∙ append-assoc (replicate blanks space) (leading 10 space more (n / 10)) (digitOf (n % 10) ∷ []),
+      rw (add-suc blanks more)
+          (ap (λ l. l ++ (digitOf (n % 10) ∷ [])) (leading-blanks blanks more (n / 10) (omega (arith, p, h)))
+          ∙ append-assoc (replicate blanks space) (leading 10 space more (n / 10)) (digitOf (n % 10) ∷ [])),
       numeral-digits more n,
     )
 

@@ -9,7 +9,7 @@ use lib.Seq.{take-nil, take-add}
 use Rattle.sheet.specs.Columns.{Entry, lineFor, headerOf}
 use Rattle.sheet.specs.Pages.{differs, printedFrom, printedOf, pagesFrom, pagesOf, sheetOf}
 use Rattle.sheet.specs.Claims.{IsLine, LinesAreWhole, IsPage, PagesAreFull, PagesEnd, LinesInOrder, NothingForNone}
-use Rattle.sheet.proofs.Lines.{line-is-whole, header-is-whole}
+use Rattle.sheet.proofs.Filled.{line-is-whole, header-is-whole}
 
 -- ---- how many there are
 
@@ -46,13 +46,14 @@ pages-are (suc most) page [] before after p e = absurd (none-within before after
 pages-are (suc most) page (l ∷ ls) [] after p e =
     let first : headerOf page ∷ take 49 (l ∷ ls) ≡ p = cc e in
     let rest : pagesFrom most (page + 1) (drop 49 (l ∷ ls)) ≡ after = cc e in
+    let none : page ≡ page + 0 = omega arith in
     let long = ap length first in
     let taken = length-take 49 (l ∷ ls) in
     let left = length-drop 49 (l ∷ ls) in (
       (λ some. let more = lines-left most (page + 1) (drop 49 (l ∷ ls)) (λ none. some (sym rest ∙ none)) in omega (arith, long, taken, left, more)),
       omega (arith, long, taken),
       omega (arith, long, taken),
-      sym (ap (take 1) first),
+      sym (ap (take 1) first) ∙ ap (λ n. headerOf n ∷ []) none,
     )
 pages-are (suc most) page (l ∷ ls) (b ∷ bs) after p e =
     let rest : pagesFrom most (page + 1) (drop 49 (l ∷ ls)) ≡ bs ++ (p ∷ after) = cc e in

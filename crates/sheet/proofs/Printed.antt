@@ -15,12 +15,12 @@ use Rattle.sheet.specs.Claims.{Alike, PrintedWhereItDiffers, LinesDiffer
 
 -- ---- the three
 
-record Same (order permitted state : ℕ) (report : List ℕ) : Type 0 where
-  order : orderIn report ≡ order
-  permitted : permittedIn report ≡ permitted
-  state : stateIn report ≡ state
+record Same (o p s : ℕ) (report : List ℕ) : Type 0 where
+  order : orderIn report ≡ o
+  permitted : permittedIn report ≡ p
+  state : stateIn report ≡ s
 
-not-different : (order permitted state : ℕ) (report : List ℕ) → differs (Printed.Line order permitted state) report ≡ false → Same order permitted state report
+not-different : (o p s : ℕ) (report : List ℕ) → differs (Printed.Line o p s) report ≡ false → Same o p s report
 unfolding differs
 not-different o p s report e =
     let (both, third) = and-eq-true-iff (eqb (orderIn report) o && eqb (permittedIn report) p) (eqb (stateIn report) s) .0 (not-false _ e) in

@@ -1,8 +1,11 @@
 // The lines of the sheet: what stands in which columns, counted from 1.
 ghost use mathlib.Core.Path.{_≡_};
-ghost use Prim.Native.Nat.{_+_, _-_, _≤_};
-ghost use lib.ListN.{length};
-ghost use Rattle.sheet.specs.Columns.{width, entry, numeral, letters, stateNames, intervalNames, blankLine, inColumns, lineFor, headerOf};
+ghost use mathlib.Core.Bool.{cond};
+ghost use Prim.Native.Nat.{_+_, _-_, _%_, _≤_};
+ghost use lib.Dec.{eqb};
+ghost use lib.ListN.{length, take};
+ghost use Rattle.wire.specs.Text.{digitOf};
+ghost use Rattle.sheet.specs.Columns.{width, entry, columns, numeral, letters, stateNames, intervalNames, blankLine, inColumns, filledIn, lineFor, headerOf};
 use wire::REPORT_LENGTH;
 use wire::be16;
 use wire::byte_at;
@@ -33,6 +36,17 @@ fn put_text(line: [u8; LINE], first: usize, last: usize, text: &[u8]) -> [u8; LI
     line
 }
 
+// The sign for the last digit of what is left of a number.
+fn sign_of(rest: u32, base: u32, fill: u8) -> u8
+    requires { ⌜ (1 ≤ base) × (base ≤ 16) ⌝ }
+    ensures { λ r. ⌜ r ≡ cond (eqb rest 0) fill (digitOf (rest % base)) ⌝ }
+{
+    if rest == 0 {
+        return fill;
+    }
+    digit((rest % base) as u8)
+}
+
 // Puts a number to a base into columns, its last digit into the last, and the fill before its first.
 fn put_number(
     line: [u8; LINE],
@@ -50,11 +64,7 @@ fn put_number(
     let mut rest = n / base;
     let mut to = last - 1;
     while to >= first {
-        line[to - 1] = if rest == 0 {
-            fill
-        } else {
-            digit((rest % base) as u8)
-        };
+        line[to - 1] = sign_of(rest, base, fill);
         rest /= base;
         to -= 1;
     }
@@ -90,18 +100,24 @@ fn interval_letters(interval: u8) -> [u8; 2]
     }
 }
 
+// The line of an accepted command up to its permitted speed.
+fn line_begun(number: u32, report: [u8; REPORT_LENGTH]) -> [u8; LINE]
+    ensures { λ r. ⌜ r ≡ filledIn (entry number report) (take 4 columns) blankLine ⌝ }
+{
+    let line = put_number(blank_line(), 1, 10, number, 10, b' ');
+    let line = put_text(line, 12, 13, &state_letters(byte_at(&report, 0)));
+    let line = put_number(line, 15, 15, byte_at(&report, 1) as u32, 10, b' ');
+    put_number(line, 17, 19, be16(&report, 4) as u32, 10, b' ')
+}
+
 // The line of an accepted command.
 pub fn line_for(number: u32, report: [u8; REPORT_LENGTH]) -> [u8; LINE]
     ensures { λ r. ⌜ r ≡ lineFor (entry number report) ⌝ }
 {
-    let mut line = blank_line();
-    line = put_number(line, 1, 10, number, 10, b' ');
-    line = put_text(line, 12, 13, &state_letters(byte_at(&report, 0)));
-    line = put_number(line, 15, 15, byte_at(&report, 1) as u32, 10, b' ');
-    line = put_number(line, 17, 19, be16(&report, 4) as u32, 10, b' ');
-    line = put_number(line, 21, 23, be16(&report, 6) as u32, 10, b' ');
-    line = put_number(line, 25, 27, byte_at(&report, 8) as u32, 10, b' ');
-    line = put_text(line, 29, 30, &interval_letters(byte_at(&report, 9)));
+    let line = line_begun(number, report);
+    let line = put_number(line, 21, 23, be16(&report, 6) as u32, 10, b' ');
+    let line = put_number(line, 25, 27, byte_at(&report, 8) as u32, 10, b' ');
+    let line = put_text(line, 29, 30, &interval_letters(byte_at(&report, 9)));
     put_number(line, 32, 35, be16(&report, 2) as u32, 16, b'0')
 }
 

@@ -104,7 +104,8 @@ pub fn print(sheet: Sheet, number: u32, report: [u8; REPORT_LENGTH], room: &mut 
     if room.len() < ADDED {
         return Put { sheet, written: 0 };
     }
-    if !is_different(sheet.printed, report) {
+    let last = sheet.printed;
+    if !is_different(last, report) {
         return Put { sheet, written: 0 };
     }
     let printed = printed_as(report);

@@ -60,33 +60,57 @@ interval-letters n = two-letters (getD intervalNames n [])
 abbrev blanks : ℕ → List ℕ
 blanks n = replicate n space
 
+-- up to each of its blanks
+abbrev upTo10 : Entry → List ℕ
+upTo10 e = numeral 10 space 10 (e .number) ++ blanks 1
+
+abbrev upTo13 : Entry → List ℕ
+upTo13 e = upTo10 e ++ letters stateNames 2 (stateIn (e .report)) ++ blanks 1
+
+abbrev upTo15 : Entry → List ℕ
+upTo15 e = upTo13 e ++ numeral 10 space 1 (orderIn (e .report)) ++ blanks 1
+
+abbrev upTo19 : Entry → List ℕ
+upTo19 e = upTo15 e ++ numeral 10 space 3 (permittedIn (e .report)) ++ blanks 1
+
+abbrev upTo23 : Entry → List ℕ
+upTo23 e = upTo19 e ++ numeral 10 space 3 (vmaxIn (e .report)) ++ blanks 1
+
+abbrev upTo27 : Entry → List ℕ
+upTo27 e = upTo23 e ++ numeral 10 space 3 (idIn (e .report)) ++ blanks 1
+
+abbrev upTo30 : Entry → List ℕ
+upTo30 e = upTo27 e ++ letters intervalNames 2 (shownIn (e .report)) ++ blanks 1
+
 abbrev body : Entry → List ℕ
-body e =
-    numeral 10 space 10 (e .number) ++ blanks 1
-    ++ letters stateNames 2 (stateIn (e .report)) ++ blanks 1
-    ++ numeral 10 space 1 (orderIn (e .report)) ++ blanks 1
-    ++ numeral 10 space 3 (permittedIn (e .report)) ++ blanks 1
-    ++ numeral 10 space 3 (vmaxIn (e .report)) ++ blanks 1
-    ++ numeral 10 space 3 (idIn (e .report)) ++ blanks 1
-    ++ letters intervalNames 2 (shownIn (e .report)) ++ blanks 1
-    ++ numeral 16 (digitOf 0) 4 (causesIn (e .report)) ++ blanks 29
+body e = upTo30 e ++ numeral 16 (digitOf 0) 4 (causesIn (e .report)) ++ blanks 29
+
+-- signs after signs
+module _ (text : List ℕ) (h : areSigns text ≡ true) where
+  then-blanks : (n : ℕ) → areSigns (blanks n) ≡ true → areSigns (text ++ blanks n) ≡ true
+  then-blanks n b = signs-joined text (blanks n) h b
+
+  then-number : (columns n : ℕ) → areSigns (text ++ numeral 10 space columns n ++ blanks 1) ≡ true
+  then-number columns n =
+      signs-joined (text ++ numeral 10 space columns n) (blanks 1)
+      (signs-joined text (numeral 10 space columns n) h (numeral-signs 10 space columns n refl)) refl
+
+  then-letters : (names : List (List ℕ)) (n : ℕ) → areNames names → areSigns (text ++ letters names 2 n ++ blanks 1) ≡ true
+  then-letters names n k =
+      signs-joined (text ++ letters names 2 n) (blanks 1) (signs-joined text (letters names 2 n) h (letters-signs names 2 n k)) refl
 
 body-signs : (e : Entry) → areSigns (body e) ≡ true
 body-signs e =
-    signs-joined _ (blanks 29) (signs-joined _ (numeral 16 (digitOf 0) 4 (causesIn (e .report)))
-    (blank (signs-joined _ (letters intervalNames 2 (shownIn (e .report)))
-    (blank (number (blank (number (blank (number (blank (number
-    (blank (signs-joined _ (letters stateNames 2 (stateIn (e .report)))
-    (blank (numeral-signs 10 space 10 (e .number) refl))
-    (letters-signs stateNames 2 _ (refl, (refl, (refl, (refl, (refl, tt)))))))))))))))
-    (letters-signs intervalNames 2 _ (refl, (refl, (refl, (refl, (refl, (refl, (refl, (refl, (refl, tt))))))))))))
-    (numeral-signs 16 (digitOf 0) 4 _ refl)) refl
-  where
-    blank : {text : List ℕ} → areSigns text ≡ true → areSigns (text ++ blanks 1) ≡ true
-    blank {text} h = signs-joined text (blanks 1) h refl
-
-    number : {text : List ℕ} {columns n : ℕ} → areSigns text ≡ true → areSigns (text ++ numeral 10 space columns n) ≡ true
-    number {text} {columns} {n} h = signs-joined text (numeral 10 space columns n) h (numeral-signs 10 space columns n refl)
+    let causes = numeral 16 (digitOf 0) 4 (causesIn (e .report)) in
+    let number = then-blanks (numeral 10 space 10 (e .number)) (numeral-signs 10 space 10 (e .number) refl) 1 refl in
+    let state = then-letters (upTo10 e) number stateNames (stateIn (e .report)) (refl, (refl, (refl, (refl, (refl, tt))))) in
+    let order = then-number (upTo13 e) state 1 (orderIn (e .report)) in
+    let permitted = then-number (upTo15 e) order 3 (permittedIn (e .report)) in
+    let vmax = then-number (upTo19 e) permitted 3 (vmaxIn (e .report)) in
+    let id = then-number (upTo23 e) vmax 3 (idIn (e .report)) in
+    let interval =
+    then-letters (upTo27 e) id intervalNames (shownIn (e .report)) (refl, (refl, (refl, (refl, (refl, (refl, (refl, (refl, (refl, tt))))))))) in
+    then-blanks (upTo30 e ++ causes) (signs-joined (upTo30 e) causes interval (numeral-signs 16 (digitOf 0) 4 (causesIn (e .report)) refl)) 29 refl
 
 line-body : (e : Entry) → textIn 1 64 (lineFor e) ≡ body e
 unfolding leading numeral letters inColumns filledIn lineFor
