@@ -7,7 +7,7 @@ use native.Mathlib.Omega.{arith}
 use lib.ListN.{length, take, drop, length-append, length-take, length-drop, take-append-drop}
 use lib.Seq.{take-nil, take-add}
 use Rattle.sheet.specs.Columns.{Entry, lineFor, headerOf}
-use Rattle.sheet.specs.Pages.{differs, printedFrom, printedOf, pagesFrom, pagesOf, sheetOf}
+use Rattle.sheet.specs.Pages.{printedAs, differs, printedFrom, printedOf, pagesFrom, pagesOf, sheetOf}
 use Rattle.sheet.specs.Claims.{IsLine, LinesAreWhole, IsPage, PagesAreFull, PagesEnd, LinesInOrder, NothingForNone}
 use Rattle.sheet.proofs.Filled.{line-is-whole, header-is-whole}
 
@@ -131,4 +131,4 @@ some-sheet l ls e =
 
 pub nothing-for-none : NothingForNone
 unfolding differs printedFrom pagesFrom pagesOf sheetOf flatten
-nothing-for-none = (refl, λ e es none. some-sheet _ _ none)
+nothing-for-none = (refl, λ e es none. some-sheet (lineFor e) (map lineFor (printedFrom (printedAs (e .report)) es)) none)

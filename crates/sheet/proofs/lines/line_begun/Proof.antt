@@ -1,5 +1,4 @@
 -- `sheet::lines::line_begun` meets its contract.
-use mathlib.Core.Path.{_∙_}
 use borrow.Author.Needs.{needs}
 use Rattle.sheet.specs.Columns.{filledIn}
 use Rattle.sheet.proofs.lines.line_begun.Statement.{statement}
@@ -56,8 +55,8 @@ returns c =
     let order = c .before .before .before in
     let state = order .before .before .before in
     let number = state .before .before .before .before .before in
-    c .put-number3 .ensures
-    ∙ rw (
+    rw (
+      c .put-number3 .ensures,
       c .before .be16 .ensures,
       order .put-number2 .ensures,
       order .before .byte-at2 .ensures,

@@ -1,5 +1,4 @@
 -- `sheet::lines::line_for` meets its contract.
-use mathlib.Core.Path.{_∙_}
 use borrow.Author.Needs.{needs}
 use Rattle.sheet.specs.Columns.{filledIn, lineFor}
 use Rattle.sheet.proofs.lines.line_for.Statement.{statement}
@@ -65,8 +64,8 @@ returns c =
     let interval = c .before .before .before in
     let id = interval .before .before .before .before .before in
     let vmax = id .before .before .before in
-    c .put-number3 .ensures
-    ∙ rw (
+    rw (
+      c .put-number3 .ensures,
       c .before .be162 .ensures,
       interval .put-text .ensures,
       interval .before .before .interval-letters .ensures,
