@@ -3,7 +3,7 @@ use Prim.Native.Nat.{ℕ, suc, _+_, _-_, _*_, _≤_, _<_}
 use mathlib.Core.Path.{_≡_, refl, sym, ap, ap₂, subst, _∙_}
 use mathlib.Core.Bool.{Bool, true, false}
 use mathlib.Core.List.{List, [], _++_, flatten}
-use native.Mathlib.Nat.{sub-zero}
+use native.Mathlib.Nat.{sub-zero, suc-mul}
 use native.Mathlib.Omega.{arith}
 use lib.ListN.{length, take, drop, take-append-drop}
 use lib.Seq.{length-take-le, drop-drop}
@@ -42,7 +42,7 @@ module _ {X : Type 0} (w : Writer X) (width : ℕ) (x₀ : X) (bytes out₀ : Li
     count = omega arith;
     inside = omega arith;
     same = refl;
-    room = omega (arith, h);
+    room = rw (sub-zero most) (omega (arith, h));
     behind = refl;
     ahead = rw (sub-zero most) (ahead-first w x₀ whole);
   }
@@ -81,6 +81,10 @@ module _ {X : Type 0} (w : Writer X) (width : ℕ) (x₀ : X) (bytes out₀ : Li
     one : most - i ≡ suc (most - (i + 1))
     one = omega arith
 
+    -- the room that is left, for one text and for those after it
+    wide : (most - i) * width ≡ (most - (i + 1)) * width + width
+    wide = ap (λ k. k * width) one ∙ suc-mul (most - (i + 1)) width
+
     pub portion-within : portionLength (nextPortion all (lent used)) ≤ length (lent used)
     portion-within = portion-fits all (lent used)
 
@@ -90,7 +94,9 @@ module _ {X : Type 0} (w : Writer X) (width : ℕ) (x₀ : X) (bytes out₀ : Li
         let long = room-length used bytes in omega (arith, n, long, s .inside)
 
     pub has-room : width ≤ length (roomAt written out)
-    has-room = let l = room-length written out in omega (arith, in-loop, s .room, s .same, l)
+    has-room =
+        let l = room-length written out in
+        let k = wide in omega (arith, s .room, s .same, l, k)
 
     -- no portion is left
     pub handed-all : portionLength (nextPortion all (lent used)) ≡ 0 → AllHanded w x₀ whole out₀ x used written all out
@@ -123,7 +129,9 @@ module _ {X : Type 0} (w : Writer X) (width : ℕ) (x₀ : X) (bytes out₀ : Li
       is-told = counted ∙ ap (λ q. length (w .text x q)) is-portion
 
       within : written + length text ≤ length out
-      within = omega (arith, is-told, narrow, in-loop, s .room, s .same)
+      within =
+          let t = is-told in
+          let k = wide in omega (arith, t, k, narrow, s .room, s .same)
 
       is-put : part ≡ placed text (roomAt written out)
       is-put = put ∙ ap (λ q. placed (w .text x q) (roomAt written out)) is-portion
@@ -155,7 +163,7 @@ module _ {X : Type 0} (w : Writer X) (width : ℕ) (x₀ : X) (bytes out₀ : Li
         count = omega (arith, in-loop);
         inside = let u = used-within in let l = long ∙ ap portionLength which in omega (arith, u, l);
         same = told-same;
-        room = omega (arith, narrow, in-loop, s .room);
+        room = let k = wide in omega (arith, narrow, k, s .room);
         behind = behind-after;
         ahead =
             rw (is-next, is-length, front-after)
@@ -169,4 +177,4 @@ module _ {X : Type 0} (w : Writer X) (width : ℕ) (x₀ : X) (bytes out₀ : Li
           handed next (used + n) (written + told) true after
           (rw (is-next, is-length, front-after)
           (ahead-last w x₀ whole (most - i) (most - (i + 1)) one all bytes used x (take written out) (s .ahead) (rw is-which at end)))
-          (let same = told-same in omega (arith, same, narrow, in-loop, s .room)) behind-after
+          (let same = told-same in let k = wide in omega (arith, same, narrow, k, s .room)) behind-after

@@ -58,25 +58,22 @@ fn tell(trip: Trip, portion: &[u8], room: &mut [u8]) -> Told
     ensures { λ r. ⌜ r .written ≤ addedWidth ⌝ }
     ensures { λ _. ⌜ now (room .exit) ≡ placed (printer .text trip (now (portion .entry))) (now (room .entry)) ⌝ }
 {
+    let stm = trip.stm;
+    let sheet = trip.sheet;
     let mut report = [255u8; REPORT_LENGTH];
-    let outcome = unit::call(trip.stm, portion, &mut report);
+    let outcome = unit::call(stm, portion, &mut report);
     let answer = outcome.answer;
     let stm = outcome.stm;
     if unit::answer_number(answer) == 0 {
-        let put = sheet::print(trip.sheet, wire::be32(portion, 1), report, room);
+        let put = sheet::print(sheet, wire::be32(portion, 1), report, room);
+        let sheet = put.sheet;
         return Told {
-            trip: Trip {
-                stm,
-                sheet: put.sheet,
-            },
+            trip: Trip { stm, sheet },
             written: put.written,
         };
     }
     Told {
-        trip: Trip {
-            stm,
-            sheet: trip.sheet,
-        },
+        trip: Trip { stm, sheet },
         written: 0,
     }
 }

@@ -31,7 +31,7 @@ use Rattle.rules.specs.declared.Section.{Section}
 use Rattle.rules.specs.declared.Track.{Track}
 use Rattle.rules.specs.declared.Stm.{Stm}
 use Rattle.rules.proofs.Answers.{Passed, after-accepted, after-other, passed}
-use Rattle.rules.proofs.Tests.{impossible, and-left, and-right, and-both, or-left, or-right, or-second, unless-used, joined-each}
+use Rattle.rules.proofs.Tests.{impossible, and-left, and-right, and-both, or-left, or-right, or-second, unless-used, joined-first, joined-each}
 use Rattle.rules.proofs.SoundTracks.{CurvesSound, SectionsSound, curve-given, curve-ended, section-given, section-ended, track-fresh}
 use Rattle.rules.proofs.Counts.{LimitsSound, brakes-fresh, brakes-by}
 use Rattle.rules.proofs.TestParts.{begun-sound, left-sound}
@@ -185,6 +185,12 @@ limits-of train e =
       brake = at-least 1 100 (train .times .brake) (passes 3);
       check = at-least 1 100 (train .check) (passes 11);
     }
+
+pub speed-most : (train : Train) → trainInRange train ≡ true → train .speed ≤ 300
+unfolding trainInRange
+speed-most train e =
+    let test = joined-first (within 10 300 (train .speed)) (laterTests train) e in
+    leb-true (train .speed) 300 (and-right (leb 10 (train .speed)) (leb (train .speed) 300) test)
 
 -- a command that is no start finds a train
 train-limits : (stm : Stm) → Parts stm → (stm .control .started || false) ≡ true → LimitsSound (stm .train)

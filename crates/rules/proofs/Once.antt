@@ -89,7 +89,7 @@ carried-started Code.Proceed s stm e = was-started stm e
 carried-started Code.BaliseError s stm e = was-started stm e
 carried-started Code.TestBrakes s stm e = was-started stm e
 
-accepted-started : (stm : Stm) (command : List ℕ) → Passed stm command → acceptedOf command stm .control .started ≡ true
+pub accepted-started : (stm : Stm) (command : List ℕ) → Passed stm command → acceptedOf command stm .control .started ≡ true
 unfolding acceptedOf remembered
 accepted-started stm command p = carried-started (codeOf (codeByte command)) (operandsOf command) stm (p .started)
 

@@ -3,8 +3,6 @@ use Prim.Native.Nat.{_≤_, _+_, _*_, _-_}
 use mathlib.Core.Path.{_≡_, refl, sym, _∙_}
 use mathlib.Core.List.{_++_, append-nil, append-assoc}
 use native.Mathlib.Omega.{arith}
-use mir.Syntax.{w8}
-use mir.Val.{Fits}
 use denote.Ref.{now}
 use lib.ListN.{length, length-set, take, drop, set, getD}
 use lib.Seq.{take-all, drop-set-lt}
@@ -43,10 +41,7 @@ array-read-byte : tie.Need-array-read-byte Inv-loop μ-loop
 array-read-byte c = omega arith
 
 digit-requires : tie.Need-digit-requires Inv-loop μ-loop
-digit-requires c κs =
-    let o = c .before in
-    let byte : Fits w8 (getD (o .before .before .args .t3) (o .loop .i) 0) = search needs in
-    omega (arith, byte .fits)
+digit-requires c κs = search needs
 
 slice-write-bytes-2 : tie.Need-slice-write-bytes-2 Inv-loop μ-loop
 slice-write-bytes-2 c = omega arith

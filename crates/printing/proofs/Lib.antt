@@ -1,0 +1,4 @@
+pub mod Figures
+pub mod Handing
+pub mod Promises
+pub mod Telling
