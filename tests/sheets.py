@@ -1,7 +1,7 @@
 #!/usr/bin/env python3
 """Writes the stdin of crates/sheets_run, or with `expected` and the plain unit's program what it must print.
 
-A case is a stream; before it stands its length in two bytes, and after its sheet comes a line.
+A case is a stream; its record is its length in two bytes and 1,024 bytes of which it is the first. After its sheet comes a line.
 """
 
 import subprocess
@@ -55,4 +55,4 @@ if __name__ == "__main__":
             lines = subprocess.run([sys.argv[2]], input=case, capture_output=True, check=True).stdout.decode().splitlines()
             sys.stdout.write(sheet(accepted(case, lines)) + "end of the sheet\n")
         else:
-            sys.stdout.buffer.write(len(case).to_bytes(2, "big") + case)
+            sys.stdout.buffer.write(len(case).to_bytes(2, "big") + case.ljust(1024, b"\0"))
