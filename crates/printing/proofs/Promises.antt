@@ -44,14 +44,6 @@ pub one-given : (stm : Stm) (p : List ℕ) (ps : List (List ℕ))
 unfolding entriesOf moments flatten zipWith
 one-given stm p ps = refl
 
--- the entry of a portion, by its answer
-pub entry-accepted : (stm : Stm) (p : List ℕ) → isAccepted (answerTo stm (send p)) ≡ true
-    → entryAt p (momentOf stm (send p)) ≡ entry (numberOf p) (momentOf stm (send p) .area) ∷ []
-entry-accepted stm p e = rw e
-
-entry-other : (stm : Stm) (p : List ℕ) → isAccepted (answerTo stm (send p)) ≡ false → entryAt p (momentOf stm (send p)) ≡ []
-entry-other stm p e = rw e
-
 count-one : (t : Bool) (e : Entry) (es : List Entry) → length (cond t (e ∷ []) [] ++ es) ≡ cond t (suc (length es)) (length es)
 count-one true e es = refl
 count-one false e es = refl
@@ -65,6 +57,14 @@ one-for-each-accepted stm (p ∷ ps) =
     ap length (one-given stm p ps)
     ∙ count-one (isAccepted (m .answer)) (entry (numberOf p) (m .area)) (entriesOf (stateAfter stm (send p)) ps)
     ∙ ap (λ n. cond (isAccepted (m .answer)) (suc n) n) rest
+
+-- the entry of a portion, by its answer
+pub entry-accepted : (stm : Stm) (p : List ℕ) → isAccepted (answerTo stm (send p)) ≡ true
+    → entryAt p (momentOf stm (send p)) ≡ entry (numberOf p) (momentOf stm (send p) .area) ∷ []
+entry-accepted stm p e = rw e
+
+entry-other : (stm : Stm) (p : List ℕ) → isAccepted (answerTo stm (send p)) ≡ false → entryAt p (momentOf stm (send p)) ≡ []
+entry-other stm p e = rw e
 
 joined : (stm : Stm) (ps qs : List (List ℕ)) → entriesOf stm (ps ++ qs) ≡ entriesOf stm ps ++ entriesOf (stateAtEnd stm (map send ps)) qs
 unfolding stateAtEnd

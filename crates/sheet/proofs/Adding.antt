@@ -10,35 +10,35 @@ use borrow.Author.Tests.{lt-ltb, le-ltb}
 use Rattle.wire.specs.Bytes.{placed}
 use Rattle.sheet.specs.declared.paging.Sheet.{Sheet}
 use Rattle.sheet.specs.Columns.{Entry, lineFor, headerOf}
-use Rattle.sheet.specs.Pages.{differs, printedAs}
-use Rattle.sheet.specs.Paging.{sheet, added, addedFor, addedIn}
+use Rattle.sheet.specs.Pages.{differs, printedAs, pageLines, lastPage}
+use Rattle.sheet.specs.Paging.{sheet, added, addedFor, addedIn, addedWidth}
 
 -- ---- what is added
 
 module _ (room : List ℕ) (s : Sheet) (e : Entry) where
-  pub no-room : length room < 130 → addedIn (length room) s e ≡ added [] s
+  pub no-room : length room < addedWidth → addedIn (length room) s e ≡ added [] s
   unfolding addedIn
-  no-room h = rw (lt-ltb (length room) 130 h)
+  no-room h = rw (lt-ltb (length room) addedWidth h)
 
-  module _ (h : 130 ≤ length room) where
+  module _ (h : addedWidth ≤ length room) where
     pub as-before : differs (s .printed) (e .report) ≡ false → addedIn (length room) s e ≡ added [] s
     unfolding addedIn addedFor
-    as-before d = rw (le-ltb (length room) 130 h, d)
+    as-before d = rw (le-ltb (length room) addedWidth h, d)
 
     module _ (d : differs (s .printed) (e .report) ≡ true) where
-      pub on-page : s .line < 50 → addedIn (length room) s e ≡ added (lineFor e) (sheet (printedAs (e .report)) (s .page) (s .line + 1))
+      pub on-page : s .line < pageLines → addedIn (length room) s e ≡ added (lineFor e) (sheet (printedAs (e .report)) (s .page) (s .line + 1))
       unfolding addedIn addedFor
-      on-page l = rw (le-ltb (length room) 130 h, d, lt-ltb (s .line) 50 l)
+      on-page l = rw (le-ltb (length room) addedWidth h, d, lt-ltb (s .line) pageLines l)
 
-      module _ (l : 50 ≤ s .line) where
-        pub next-page : s .page < 9999
+      module _ (l : pageLines ≤ s .line) where
+        pub next-page : s .page < lastPage
             → addedIn (length room) s e ≡ added (headerOf (s .page + 1) ++ lineFor e) (sheet (printedAs (e .report)) (s .page + 1) 2)
         unfolding addedIn addedFor
-        next-page p = rw (le-ltb (length room) 130 h, d, le-ltb (s .line) 50 l, lt-ltb (s .page) 9999 p)
+        next-page p = rw (le-ltb (length room) addedWidth h, d, le-ltb (s .line) pageLines l, lt-ltb (s .page) lastPage p)
 
-        pub no-page : 9999 ≤ s .page → addedIn (length room) s e ≡ added [] s
+        pub no-page : lastPage ≤ s .page → addedIn (length room) s e ≡ added [] s
         unfolding addedIn addedFor
-        no-page p = rw (le-ltb (length room) 130 h, d, le-ltb (s .line) 50 l, le-ltb (s .page) 9999 p)
+        no-page p = rw (le-ltb (length room) addedWidth h, d, le-ltb (s .line) pageLines l, le-ltb (s .page) lastPage p)
 
 -- ---- how it is put
 

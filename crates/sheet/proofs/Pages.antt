@@ -7,7 +7,7 @@ use native.Mathlib.Omega.{arith}
 use lib.ListN.{length, take, drop, length-append, length-take, length-drop, take-append-drop}
 use lib.Seq.{take-nil, take-add}
 use Rattle.sheet.specs.Columns.{Entry, lineFor, headerOf}
-use Rattle.sheet.specs.Pages.{printedAs, differs, printedFrom, printedOf, pagesFrom, pagesOf, sheetOf}
+use Rattle.sheet.specs.Pages.{printedAs, differs, printedFrom, printedOf, pageLines, lastPage, pagesFrom, pagesOf, sheetOf}
 use Rattle.sheet.specs.Claims.{IsLine, LinesAreWhole, IsPage, PagesAreFull, PagesEnd, LinesInOrder, NothingForNone}
 use Rattle.sheet.proofs.Filled.{line-is-whole, header-is-whole}
 
@@ -17,11 +17,11 @@ pages-most : (most page : ℕ) (lines : List (List ℕ)) → length (pagesFrom m
 unfolding pagesFrom
 pages-most zero page lines = omega arith
 pages-most (suc most) page [] = omega arith
-pages-most (suc most) page (l ∷ ls) = let h = pages-most most (page + 1) (drop 49 (l ∷ ls)) in omega (arith, h)
+pages-most (suc most) page (l ∷ ls) = let h = pages-most most (page + 1) (drop (pageLines - 1) (l ∷ ls)) in omega (arith, h)
 
 pub pages-end : PagesEnd
 unfolding pagesOf
-pages-end entries = pages-most 9999 1 (map lineFor (printedOf entries))
+pages-end entries = pages-most lastPage 1 (map lineFor (printedOf entries))
 
 -- ---- each of them
 
@@ -44,44 +44,44 @@ unfolding pagesFrom
 pages-are zero page lines before after p e = absurd (none-within before after p e)
 pages-are (suc most) page [] before after p e = absurd (none-within before after p e)
 pages-are (suc most) page (l ∷ ls) [] after p e =
-    let first : headerOf page ∷ take 49 (l ∷ ls) ≡ p = cc e in
-    let rest : pagesFrom most (page + 1) (drop 49 (l ∷ ls)) ≡ after = cc e in
+    let first : headerOf page ∷ take (pageLines - 1) (l ∷ ls) ≡ p = cc e in
+    let rest : pagesFrom most (page + 1) (drop (pageLines - 1) (l ∷ ls)) ≡ after = cc e in
     let none : page ≡ page + 0 = omega arith in
     let long = ap length first in
-    let taken = length-take 49 (l ∷ ls) in
-    let left = length-drop 49 (l ∷ ls) in (
-      (λ some. let more = lines-left most (page + 1) (drop 49 (l ∷ ls)) (λ none. some (sym rest ∙ none)) in omega (arith, long, taken, left, more)),
+    let taken = length-take (pageLines - 1) (l ∷ ls) in
+    let left = length-drop (pageLines - 1) (l ∷ ls) in (
+      (λ some. let more = lines-left most (page + 1) (drop (pageLines - 1) (l ∷ ls)) (λ none. some (sym rest ∙ none)) in omega (arith, long, taken, left, more)),
       omega (arith, long, taken),
       omega (arith, long, taken),
       sym (ap (take 1) first) ∙ ap (λ n. headerOf n ∷ []) none,
     )
 pages-are (suc most) page (l ∷ ls) (b ∷ bs) after p e =
-    let rest : pagesFrom most (page + 1) (drop 49 (l ∷ ls)) ≡ bs ++ (p ∷ after) = cc e in
-    let (full, least, most, header) = pages-are most (page + 1) (drop 49 (l ∷ ls)) bs after p rest in
+    let rest : pagesFrom most (page + 1) (drop (pageLines - 1) (l ∷ ls)) ≡ bs ++ (p ∷ after) = cc e in
+    let (full, least, most, header) = pages-are most (page + 1) (drop (pageLines - 1) (l ∷ ls)) bs after p rest in
     let count : page + 1 + length bs ≡ page + suc (length bs) = omega arith in
     (full, least, most, header ∙ ap (λ n. headerOf n ∷ []) count)
 
 pub pages-are-full : PagesAreFull
 unfolding pagesOf
 pages-are-full entries before after page e =
-    let (full, least, most, header) = pages-are 9999 1 (map lineFor (printedOf entries)) before after page e in
+    let (full, least, most, header) = pages-are lastPage 1 (map lineFor (printedOf entries)) before after page e in
     let count : 1 + length before ≡ length before + 1 = omega arith in
     record { full = full; least = least; most = most; header = header ∙ ap (λ n. headerOf n ∷ []) count }
 
 -- ---- the lines on them
 
-lines-from : (most page : ℕ) (lines : List (List ℕ)) → flatMap (drop 1) (pagesFrom most page lines) ≡ take (most * 49) lines
+lines-from : (most page : ℕ) (lines : List (List ℕ)) → flatMap (drop 1) (pagesFrom most page lines) ≡ take (most * (pageLines - 1)) lines
 unfolding pagesFrom flatMap
 lines-from zero page lines = refl
-lines-from (suc most) page [] = sym (take-nil (suc most * 49))
+lines-from (suc most) page [] = sym (take-nil (suc most * (pageLines - 1)))
 lines-from (suc most) page (l ∷ ls) =
-    let n : suc most * 49 ≡ 49 + most * 49 = omega arith in
-    ap (λ r. take 49 (l ∷ ls) ++ r) (lines-from most (page + 1) (drop 49 (l ∷ ls)))
-    ∙ sym (take-add 49 (most * 49) (l ∷ ls)) ∙ ap (λ k. take k (l ∷ ls)) (sym n)
+    let n : suc most * (pageLines - 1) ≡ pageLines - 1 + most * (pageLines - 1) = omega arith in
+    ap (λ r. take (pageLines - 1) (l ∷ ls) ++ r) (lines-from most (page + 1) (drop (pageLines - 1) (l ∷ ls)))
+    ∙ sym (take-add (pageLines - 1) (most * (pageLines - 1)) (l ∷ ls)) ∙ ap (λ k. take k (l ∷ ls)) (sym n)
 
 pub lines-in-order : LinesInOrder
 unfolding pagesOf
-lines-in-order entries = lines-from 9999 1 (map lineFor (printedOf entries))
+lines-in-order entries = lines-from lastPage 1 (map lineFor (printedOf entries))
 
 in-take : {A : Type 0} (n : ℕ) (l : List A) (x : A) → List·Memᴰ x (take n l) → List·Memᴰ x l
 in-take n l x m = subst (List·Memᴰ x) (take-append-drop n l) (Memᴰ·append-left (drop n l) m)
@@ -100,9 +100,9 @@ unfolding pagesFrom
 whole-from zero page lines h p line m n = absurd (List·Memᴰ·not-nil m)
 whole-from (suc most) page [] h p line m n = absurd (List·Memᴰ·not-nil m)
 whole-from (suc most) page (l ∷ ls) h p line (List·Memᴰ·head e) n =
-    page-whole page (take 49 (l ∷ ls)) (λ x i. h x (in-take 49 (l ∷ ls) x i)) line (subst (List·Memᴰ line) e n)
+    page-whole page (take (pageLines - 1) (l ∷ ls)) (λ x i. h x (in-take (pageLines - 1) (l ∷ ls) x i)) line (subst (List·Memᴰ line) e n)
 whole-from (suc most) page (l ∷ ls) h p line (List·Memᴰ·tail m) n =
-    whole-from most (page + 1) (drop 49 (l ∷ ls)) (λ x i. h x (in-drop 49 (l ∷ ls) x i)) p line m n
+    whole-from most (page + 1) (drop (pageLines - 1) (l ∷ ls)) (λ x i. h x (in-drop (pageLines - 1) (l ∷ ls) x i)) p line m n
 
 printed-whole : (es : List Entry) (line : List ℕ) → List·Memᴰ line (map lineFor es) → IsLine line
 printed-whole [] line m = absurd (List·Memᴰ·not-nil m)
@@ -112,19 +112,19 @@ printed-whole (e ∷ es) line (List·Memᴰ·tail m) = printed-whole es line m
 pub lines-are-whole : LinesAreWhole
 unfolding pagesOf
 lines-are-whole entries page line m n =
-    whole-from 9999 1 (map lineFor (printedOf entries)) (printed-whole (printedOf entries)) page line m n
+    whole-from lastPage 1 (map lineFor (printedOf entries)) (printed-whole (printedOf entries)) page line m n
 
 -- ---- nothing where no command is accepted
 
 begins : (l : List ℕ) (ls : List (List ℕ))
-    → flatten (flatten (pagesFrom 9999 1 (l ∷ ls)))
-    ≡ headerOf 1 ++ flatten (take 49 (l ∷ ls) ++ flatten (pagesFrom 9998 2 (drop 49 (l ∷ ls))))
+    → flatten (flatten (pagesFrom lastPage 1 (l ∷ ls)))
+    ≡ headerOf 1 ++ flatten (take (pageLines - 1) (l ∷ ls) ++ flatten (pagesFrom (lastPage - 1) 2 (drop (pageLines - 1) (l ∷ ls))))
 unfolding pagesFrom flatten
 begins l ls = refl
 
-some-sheet : (l : List ℕ) (ls : List (List ℕ)) → flatten (flatten (pagesFrom 9999 1 (l ∷ ls))) ≡ [] → ⊥
+some-sheet : (l : List ℕ) (ls : List (List ℕ)) → flatten (flatten (pagesFrom lastPage 1 (l ∷ ls))) ≡ [] → ⊥
 some-sheet l ls e =
-    let more = flatten (take 49 (l ∷ ls) ++ flatten (pagesFrom 9998 2 (drop 49 (l ∷ ls)))) in
+    let more = flatten (take (pageLines - 1) (l ∷ ls) ++ flatten (pagesFrom (lastPage - 1) 2 (drop (pageLines - 1) (l ∷ ls)))) in
     let all = ap length (sym (begins l ls) ∙ e) in
     let parts = length-append (headerOf 1) more in
     let first = header-is-whole 1 .bytes in omega (arith, all, parts, first)
