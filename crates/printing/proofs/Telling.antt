@@ -7,7 +7,7 @@ use borrow.Author.Tests.{le-ltb}
 use Rattle.rules.specs.Numbers.{isAccepted}
 use Rattle.rules.specs.Operands.{numberOf}
 use Rattle.rules.specs.Runs.{momentOf, answerTo, send}
-use Rattle.sheet.specs.declared.paging.Sheet.{Sheet}
+use Rattle.sheet.specs.declared.Sheet.{Sheet}
 use Rattle.sheet.specs.Columns.{Entry, entry}
 use Rattle.sheet.specs.Paging.{added, addedFor, addedIn, addedWidth}
 use Rattle.printing.specs.declared.Trip.{Trip}

@@ -10,9 +10,9 @@ ghost use Rattle.portions.specs.Portions.{givenOf};
 ghost use Rattle.portions.specs.Reads.{textBy};
 ghost use Rattle.sheet.specs.Paging.{addedWidth};
 ghost use Rattle.printing.specs.Sheets.{freshTrip, printer, handedOn, givenIn};
+use paging::ADDED;
 use portions::INPUT;
 use rules::Stm;
-use sheet::ADDED;
 use sheet::Sheet;
 use wire::REPORT_LENGTH;
 use wire::SHORTEST;
@@ -46,7 +46,7 @@ pub fn fresh() -> Trip
 {
     Trip {
         stm: unit::fresh(),
-        sheet: sheet::fresh(),
+        sheet: paging::fresh(),
     }
 }
 
@@ -65,7 +65,7 @@ fn tell(trip: Trip, portion: &[u8], room: &mut [u8]) -> Told
     let answer = outcome.answer;
     let stm = outcome.stm;
     if unit::answer_number(answer) == 0 {
-        let put = sheet::print(sheet, wire::be32(portion, 1), report, room);
+        let put = paging::print(sheet, wire::be32(portion, 1), report, room);
         let sheet = put.sheet;
         return Told {
             trip: Trip { stm, sheet },

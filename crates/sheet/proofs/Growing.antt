@@ -9,8 +9,8 @@ use lib.ListN.{take, drop}
 use lib.Seq.{take-nil, drop-nil}
 use borrow.Author.Tests.{ltb-true, ltb-false}
 use Rattle.laws.proofs.Lists.{flatten-joined}
-use Rattle.sheet.specs.declared.paging.Printed.{Printed}
-use Rattle.sheet.specs.declared.paging.Sheet.{Sheet}
+use Rattle.sheet.specs.declared.Printed.{Printed}
+use Rattle.sheet.specs.declared.Sheet.{Sheet}
 use Rattle.sheet.specs.Columns.{Entry, lineFor, headerOf}
 use Rattle.sheet.specs.Pages.{printedAs, differs, printedFrom, pageLines, lastPage, pagesFrom, pagesOf, sheetOf}
 use Rattle.sheet.specs.Paging.{sheet, freshSheet, Added, added, addedFor, addedBy}

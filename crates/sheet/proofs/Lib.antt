@@ -1,9 +1,6 @@
-pub mod Adding
+pub mod Chosen
 pub mod Example
 pub mod Filled
 pub mod Growing
-pub mod Letters
 pub mod Numerals
 pub mod Pages
-pub mod Printed
-pub mod Putting

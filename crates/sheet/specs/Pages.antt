@@ -5,7 +5,7 @@ use mathlib.Core.List.{List, [], _∷_, _++_, map, flatten}
 use lib.Dec.{eqb}
 use lib.ListN.{take, drop}
 use Rattle.wire.specs.Report.{stateIn, orderIn, permittedIn}
-use Rattle.sheet.specs.declared.paging.Printed.{Printed}
+use Rattle.sheet.specs.declared.Printed.{Printed}
 use Rattle.sheet.specs.Columns.{Entry, lineFor, headerOf}
 
 -- ---- which commands get a line

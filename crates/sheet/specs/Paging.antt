@@ -3,8 +3,8 @@ use Prim.Native.Nat.{ℕ, _+_, _*_}
 use mathlib.Core.Bool.{cond, not}
 use mathlib.Core.List.{List, [], _∷_, _++_}
 use lib.Dec.{ltb}
-use Rattle.sheet.specs.declared.paging.Printed.{Printed}
-use Rattle.sheet.specs.declared.paging.Sheet.{Sheet}
+use Rattle.sheet.specs.declared.Printed.{Printed}
+use Rattle.sheet.specs.declared.Sheet.{Sheet}
 use Rattle.sheet.specs.Columns.{Entry, width, lineFor, headerOf}
 use Rattle.sheet.specs.Pages.{differs, printedAs, pageLines, lastPage}
 

@@ -1,15 +1,19 @@
-// The trip sheet (02, F-5): lines of accepted commands on pages.
-//
-// No public function has a `requires`: each is defined at every sheet, number, report and room.
-mod lines;
-mod paging;
+// The trip sheet (02, F-5), for the code to be proved against: its types stand here, its rules in specs/, and what is promised of every
+// sheet in specs/ too, proved in proofs/. Nothing here runs.
 
-pub use lines::LINE;
-pub use lines::header_of;
-pub use lines::line_for;
-pub use paging::ADDED;
-pub use paging::Printed;
-pub use paging::Put;
-pub use paging::Sheet;
-pub use paging::fresh;
-pub use paging::print;
+// What the last line says of the three by which the next is compared with it; nothing before any line.
+pub enum Printed {
+    Nothing,
+    Line {
+        order: u8,
+        permitted: u16,
+        state: u8,
+    },
+}
+
+// Where a sheet stands: its last line, the page, and how many lines are on it.
+pub struct Sheet {
+    pub printed: Printed,
+    pub page: u16,
+    pub line: u8,
+}

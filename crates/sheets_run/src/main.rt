@@ -5,7 +5,7 @@ const STREAM: usize = 1024;
 const RECORD: usize = 2 + STREAM;
 
 // Room for what as many commands add as a stream can hold, a rest after them, and one to find no more.
-const PAGES: usize = (STREAM / wire::SHORTEST + 2) * sheet::ADDED;
+const PAGES: usize = (STREAM / wire::SHORTEST + 2) * paging::ADDED;
 
 // The stream of a record.
 fn stream_of(record: &[u8; RECORD]) -> &[u8] {
