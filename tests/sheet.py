@@ -4,9 +4,13 @@
 python3 tests/sheet.py STREAM LINES writes the sheet. Written from 02, F-5, apart from the definitions; the lines are the plain unit's.
 """
 
+import os
 import sys
 
-LENGTHS = {0x01: 24, 0x02: 6, 0x10: 14, 0x20: 12, 0x21: 6, 0x22: 8, 0x23: 6, 0x30: 6, 0x31: 5, 0x32: 5, 0x40: 5}
+sys.dont_write_bytecode = True
+sys.path.insert(0, os.path.dirname(os.path.abspath(__file__)))
+from coverage import LENGTHS
+
 STATES = ["DE", "CS", "HS", "DA", "FA"]
 INTERVALS = ["", "A", "Ab", "Bf", "B", "C", "D", "E", "F"]
 

@@ -4,9 +4,12 @@
 A case is a stream; its record is its length in two bytes and 1,024 bytes of which it is the first. After its sheet comes a line.
 """
 
+import os
 import subprocess
 import sys
 
+sys.dont_write_bytecode = True
+sys.path.insert(0, os.path.dirname(os.path.abspath(__file__)))
 from sheet import accepted, sheet
 
 START = bytes.fromhex("01 00000001 00 00A0 0190 02BC 01F4 1E 14 14 1E 0A 0F 32 017C 0D")

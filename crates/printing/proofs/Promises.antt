@@ -1,15 +1,13 @@
 -- The promises of a trip's sheet. Assumes nothing.
 use Prim.Native.Nat.{ℕ, suc, _/_}
-use mathlib.Core.Path.{_≡_, refl, sym, ap, ap₂, _∙_}
+use mathlib.Core.Path.{_≡_, refl, sym, ap, _∙_}
 use mathlib.Core.Bool.{Bool, true, false, cond}
 use mathlib.Core.List.{List, [], _∷_, _++_, map, zipWith, flatten, append-assoc}
 use native.Mathlib.Omega.{arith}
-use lib.Dec.{eqb}
 use lib.ListN.{length, drop}
 use lib.Seq.{take-append-seam}
 use borrow.Author.Tests.{eq-eqb, ne-eqb}
 use Rattle.wire.specs.Bytes.{placed}
-use Rattle.wire.specs.Numbers.{number}
 use Rattle.portions.specs.Portions.{givenOf, leftOf, portionsOf}
 use Rattle.portions.specs.Reads.{textBy, turnOf}
 use Rattle.portions.proofs.Giving.{enough}
@@ -30,7 +28,7 @@ use Rattle.sheet.specs.Paging.{added, addedFor, addedBy, addedWidth}
 use Rattle.sheet.proofs.Growing.{added-is-the-sheet}
 use Rattle.printing.specs.declared.Trip.{Trip}
 use Rattle.printing.specs.Sheets.{entryAt, entriesOf, tripSheet, freshTrip, addedAt, printer, handedOn, outputRoom}
-use Rattle.printing.specs.Claims.{acceptedIn, OneForEachAccepted, stateAfterAll, AcceptedComeToIt, StatesAreNamed, IntervalsAreNamed, WritesTheSheet, WritesAtOnce, TurnIsHanded, AllHasRoom}
+use Rattle.printing.specs.Claims.{OneForEachAccepted, stateAfterAll, AcceptedComeToIt, StatesAreNamed, IntervalsAreNamed, WritesTheSheet, WritesAtOnce, TurnIsHanded, AllHasRoom}
 
 -- ---- which commands come to the sheet
 

@@ -17,7 +17,7 @@ use Rattle.colours.specs.declared.Showing.{Showing}
 use Rattle.colours.specs.Numbers.{showingNumber}
 use Rattle.rules.specs.Numbers.{answerNumber, stateNumber}
 use Rattle.rules.specs.Commands.{freshStm}
-use Rattle.rules.specs.Runs.{Moment, moments, momentOf, answerTo, stateAtEnd, send}
+use Rattle.rules.specs.Runs.{Moment, moments, momentOf, stateAtEnd, send}
 use Rattle.rules.specs.declared.State.{State}
 use Rattle.rules.specs.declared.Stm.{Stm}
 use Rattle.sheet.specs.Columns.{Entry, entry, letters, stateNames, intervalNames}

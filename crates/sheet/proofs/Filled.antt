@@ -1,13 +1,12 @@
 -- Lines and their columns. Assumes nothing.
 use Prim.Native.Nat.{ℕ, zero, suc, _+_, _≤_, _<_, _^_}
-use mathlib.Core.Path.{_≡_, refl, sym, ap, _∙_}
+use mathlib.Core.Path.{_≡_, refl, ap, _∙_}
 use mathlib.Core.Bool.{true, and-eq-true-iff}
 use mathlib.Core.List.{List, [], _∷_, _++_}
 use native.Mathlib.Omega.{arith}
-use native.Mathlib.Nat.{not-suc-le-zero, le-of-suc-le-suc}
 use lib.ListN.{take, getD, replicate}
 use Rattle.wire.specs.Report.{stateIn, orderIn, causesIn, permittedIn, vmaxIn, idIn, shownIn}
-use Rattle.wire.specs.Text.{ascii, digitOf, space, lineFeed}
+use Rattle.wire.specs.Text.{ascii, digitOf, space}
 use Rattle.sheet.specs.Columns.{Entry, leading, numeral, letters, stateNames, intervalNames, inColumns, filledIn, lineFor, headerOf}
 use Rattle.sheet.specs.Claims.{textIn, isSign, areSigns, IsLine, valueFrom, numberIn, areDigits, LinesReadBack, HeadersReadBack}
 use Rattle.sheet.proofs.Numerals.{signs-joined, numeral-signs, decimal-value, hexadecimal-value, hex-digits}

@@ -1,20 +1,20 @@
 -- What commands add one after the other is the sheet of all of them. Assumes nothing.
 use Prim.Native.Nat.{ℕ, zero, suc, _+_, _-_, _≤_, _<_}
-use mathlib.Core.Path.{_≡_, refl, sym, ap, ap₂, _∙_}
+use mathlib.Core.Path.{_≡_, refl, sym, ap, _∙_}
 use mathlib.Core.Bool.{Bool, true, false, cond, not}
 use mathlib.Core.List.{List, [], _∷_, _++_, map, flatten, append-assoc}
 use native.Mathlib.Omega.{arith}
 use lib.Dec.{ltb}
-use lib.ListN.{take, drop}
+use lib.ListN.{length, take, drop, length-append}
 use lib.Seq.{take-nil, drop-nil}
 use borrow.Author.Tests.{ltb-true, ltb-false}
 use Rattle.laws.proofs.Lists.{flatten-joined}
-use Rattle.sheet.specs.declared.Printed.{Printed}
 use Rattle.sheet.specs.declared.Sheet.{Sheet}
 use Rattle.sheet.specs.Columns.{Entry, lineFor, headerOf}
 use Rattle.sheet.specs.Pages.{printedAs, differs, printedFrom, pageLines, lastPage, pagesFrom, pagesOf, sheetOf}
-use Rattle.sheet.specs.Paging.{sheet, freshSheet, Added, added, addedFor, addedBy}
-use Rattle.sheet.specs.Claims.{AddedIsTheSheet}
+use Rattle.sheet.specs.Paging.{sheet, freshSheet, added, addedFor, addedWidth, addedBy}
+use Rattle.sheet.specs.Claims.{AddedIsTheSheet, AddsAtMost}
+use Rattle.sheet.proofs.Filled.{line-is-whole, header-is-whole}
 
 -- the text of lines that come after so many lines of a page
 abbrev onwards : ℕ → ℕ → List (List ℕ) → List ℕ
@@ -94,3 +94,29 @@ grows (e ∷ es) s =
 pub added-is-the-sheet : AddedIsTheSheet
 unfolding sheetOf pagesOf flatten
 added-is-the-sheet entries = grows entries freshSheet
+
+-- ---- how much is added
+
+two-lines : (page : ℕ) (e : Entry) → length (headerOf page ++ lineFor e) ≡ addedWidth
+two-lines page e =
+    let all = length-append (headerOf page) (lineFor e) in
+    let first = header-is-whole page .bytes in
+    let second = line-is-whole e .bytes in omega (arith, all, first, second)
+
+pub adds-at-most : AddsAtMost
+unfolding addedFor differs
+adds-at-most = (
+  λ s e. at-most s e (differs (s .printed) (e .report)) (ltb (s .line) pageLines) (ltb (s .page) lastPage),
+  λ e. two-lines 1 e,
+)
+  where
+    at-most : (s : Sheet) (e : Entry) (d l p : Bool)
+        → length
+        (cond (not d) (added [] s)
+        (cond l (added (lineFor e) (sheet (printedAs (e .report)) (s .page) (s .line + 1)))
+        (cond p (added (headerOf (s .page + 1) ++ lineFor e) (sheet (printedAs (e .report)) (s .page + 1) 2)) (added [] s))) .text)
+        ≤ addedWidth
+    at-most s e false l p = omega arith
+    at-most s e true true p = let long = line-is-whole e .bytes in omega (arith, long)
+    at-most s e true false true = let long = two-lines (s .page + 1) e in omega (arith, long)
+    at-most s e true false false = omega arith

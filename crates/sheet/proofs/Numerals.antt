@@ -8,8 +8,8 @@ use native.Mathlib.Nat.{add-zero, add-suc, pow-zero, pow-suc}
 use native.Mathlib.Numerals.{add-one}
 use native.Mathlib.Omega.{arith}
 use lib.Dec.{eqb, leb, ltb}
-use lib.ListN.{length, replicate, length-append, replicate-append-replicate}
-use borrow.Author.Tests.{ltb-true, ltb-false, lt-ltb, le-ltb, le-leb, lt-leb, eq-eqb, ne-eqb, eqb-true, eqb-false}
+use lib.ListN.{replicate, replicate-append-replicate}
+use borrow.Author.Tests.{ltb-true, ltb-false, lt-ltb, le-ltb, le-leb, lt-leb, ne-eqb, eqb-true}
 use Rattle.wire.specs.Text.{digitOf, space}
 use Rattle.sheet.specs.Columns.{leading, numeral, decimal}
 use Rattle.sheet.specs.Claims.{isSign, areSigns, valueOfSign, valueFrom, areDigits, BlankBefore}

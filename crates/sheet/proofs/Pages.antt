@@ -8,7 +8,7 @@ use lib.ListN.{length, take, drop, length-append, length-take, length-drop, take
 use lib.Seq.{take-nil, take-add}
 use Rattle.sheet.specs.Columns.{Entry, lineFor, headerOf}
 use Rattle.sheet.specs.Pages.{printedAs, differs, printedFrom, printedOf, pageLines, lastPage, pagesFrom, pagesOf, sheetOf}
-use Rattle.sheet.specs.Claims.{IsLine, LinesAreWhole, IsPage, PagesAreFull, PagesEnd, LinesInOrder, NothingForNone}
+use Rattle.sheet.specs.Claims.{IsLine, LinesAreWhole, PagesAreFull, PagesEnd, LinesInOrder, NothingForNone}
 use Rattle.sheet.proofs.Filled.{line-is-whole, header-is-whole}
 
 -- ---- how many there are

@@ -7,10 +7,11 @@ use mathlib.Core.List.{List, [], _∷_, _++_, map, flatMap, List·Memᴰ}
 use lib.Dec.{eqb, leb, ltb}
 use lib.ListN.{length, take, drop, getD, replicate}
 use Rattle.wire.specs.Report.{stateIn, orderIn, causesIn, permittedIn, vmaxIn, idIn, shownIn}
-use Rattle.wire.specs.Text.{ascii, space, lineFeed}
+use Rattle.wire.specs.Text.{ascii, space}
+use Rattle.sheet.specs.declared.Sheet.{Sheet}
 use Rattle.sheet.specs.Columns.{Entry, decimal, stateNames, intervalNames, lineFor, headerOf}
 use Rattle.sheet.specs.Pages.{printedOf, pagesOf, sheetOf}
-use Rattle.sheet.specs.Paging.{freshSheet, addedBy}
+use Rattle.sheet.specs.Paging.{freshSheet, addedFor, addedWidth, addedBy}
 
 -- ---- lines
 
@@ -167,3 +168,9 @@ LinesDiffer =
 -- what the commands add one after the other is the sheet of all of them
 abbrev pub AddedIsTheSheet : Type 0
 AddedIsTheSheet = (entries : List Entry) → addedBy freshSheet entries ≡ sheetOf entries
+
+-- no command adds more than there has to be room for, and the first adds as much
+abbrev pub AddsAtMost : Type 0
+AddsAtMost =
+    ((s : Sheet) (e : Entry) → length (addedFor s e .text) ≤ addedWidth)
+    × ((e : Entry) → length (addedFor freshSheet e .text) ≡ addedWidth)

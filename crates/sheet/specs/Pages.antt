@@ -1,7 +1,7 @@
 -- The trip sheet of a list of accepted commands (02, F-5): which of them get a line, and how lines come to pages.
 use Prim.Native.Nat.{ℕ, zero, suc, _+_, _-_}
 use mathlib.Core.Bool.{Bool, true, cond, not, _&&_}
-use mathlib.Core.List.{List, [], _∷_, _++_, map, flatten}
+use mathlib.Core.List.{List, [], _∷_, map, flatten}
 use lib.Dec.{eqb}
 use lib.ListN.{take, drop}
 use Rattle.wire.specs.Report.{stateIn, orderIn, permittedIn}

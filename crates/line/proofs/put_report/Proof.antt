@@ -4,7 +4,7 @@ use mathlib.Core.Path.{_≡_, refl, sym, _∙_}
 use mathlib.Core.List.{_++_, append-nil, append-assoc}
 use native.Mathlib.Omega.{arith}
 use denote.Ref.{now}
-use lib.ListN.{length, length-set, take, drop, set, getD}
+use lib.ListN.{length, length-set, take, drop, set}
 use lib.Seq.{take-all, drop-set-lt}
 use borrow.Author.Needs.{needs}
 use Rattle.wire.specs.Form.{reportLength}

@@ -1,7 +1,7 @@
 -- `output::hand_on` meets its contract: each turn of its loop leaves it standing as `Turns` says, and what it answers has come of all
 -- the portions.
 use Prim.Native.Nat.{_-_, _/_}
-use mathlib.Core.Path.{_≡_, sym, ap, _∙_}
+use mathlib.Core.Path.{sym, ap, _∙_}
 use mathlib.Core.Bool.{true, false}
 use native.Mathlib.Omega.{arith}
 use denote.Ref.{now}

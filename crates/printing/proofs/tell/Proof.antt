@@ -7,7 +7,7 @@ use borrow.Author.Needs.{needs}
 use borrow.Author.Tests.{eq-eqb, ne-eqb}
 use Rattle.wire.specs.Bytes.{placed}
 use Rattle.rules.specs.Numbers.{answerNumber}
-use Rattle.rules.specs.Runs.{momentOf, stateAfter, send}
+use Rattle.rules.specs.Runs.{momentOf, send}
 use Rattle.sheet.specs.Columns.{entry}
 use Rattle.sheet.specs.Paging.{addedFor, addedIn}
 use Rattle.printing.specs.declared.Trip.{Trip}

@@ -1,7 +1,7 @@
 -- `paging::lines::put_number` meets its contract. The loop's invariant: the digits that are still to come, and what stands behind them, are
 -- the same from turn to turn.
 use Prim.Native.Nat.{_+_, _-_, _≤_}
-use mathlib.Core.Path.{_≡_, refl, sym, ap, _∙_}
+use mathlib.Core.Path.{_≡_, refl, ap, _∙_}
 use mathlib.Core.List.{_++_}
 use native.Mathlib.Nat.{mod-lt}
 use native.Mathlib.Omega.{arith}
