@@ -1,10 +1,10 @@
 #!/usr/bin/env python3
-"""Makes the definitions of `rules` and `colours` wrong by one token, one at a time, in a copy of the repository, and tells which wrong
+"""Makes the definitions of `rules`, `colours` and `sheet` wrong by one token, one at a time, in a copy of the repository, and tells which wrong
 ones the checker still takes: no promise speaks against those. docs/DECISIONS.md lists them.
 
     python3 tests/wrong.py [--most N] [--seed S] [FILE..]
 
-FILE is a name in crates/rules/specs, as Table, or a crate and a name, as colours/Rows; with none, every file of rules is tried. A change
+FILE is a name in crates/rules/specs, as Table, or a crate and a name, as colours/Rows or sheet/Columns; with none, every file of rules is tried. A change
 is a figure one more or one less, a test, a truth value, a constructor or a field for another of its type, or a `not` left out. A change
 that no longer has a type is left out of the count. Each takes some seconds; at most N are tried, chosen by the seed S.
 """
@@ -26,7 +26,7 @@ TOKEN = re.compile(r'0x[0-9A-F]+\b|\b\d+\b|\b(?:ltb|leb|lt|le|true|false|min|not
 def fields_and_variants():
     """field -> the fields of its struct that have its type; enum -> its variants."""
     fields, variants = {}, {}
-    for crate in ('rules', 'colours', 'curve', 'pressure'):
+    for crate in ('rules', 'colours', 'sheet', 'curve', 'pressure'):
         with open(f'crates/{crate}/src/lib.rt') as f:
             text = re.sub(r'//.*', '', f.read())
         for body in re.findall(r'pub struct \w+ \{(.*?)\n\}', text, re.S):
