@@ -81,7 +81,9 @@ lines-from (suc most) page (l ∷ ls) =
 
 pub lines-in-order : LinesInOrder
 unfolding pagesOf
-lines-in-order entries = lines-from lastPage 1 (map lineFor (printedOf entries))
+lines-in-order entries =
+    let room : lastPage * (pageLines - 1) ≡ 9999 * 49 = refl in
+    lines-from lastPage 1 (map lineFor (printedOf entries)) ∙ ap (λ n. take n (map lineFor (printedOf entries))) room
 
 in-take : {A : Type 0} (n : ℕ) (l : List A) (x : A) → List·Memᴰ x (take n l) → List·Memᴰ x l
 in-take n l x m = subst (List·Memᴰ x) (take-append-drop n l) (Memᴰ·append-left (drop n l) m)
