@@ -25,6 +25,7 @@ fn read_after(buffer: &mut [u8], left: usize) -> usize
     left
 }
 
+// Reads after the bytes that are left, and tells where the bytes end then.
 pub fn read(input: &mut [u8; INPUT], left: usize) -> usize
     ensures { λ _. ⌜ take left (now (input .exit)) ≡ take left (now (input .entry)) ⌝ }
     ensures { λ r. ⌜ left ≤ r ⌝ }
