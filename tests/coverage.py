@@ -22,11 +22,12 @@ LAST = 0xFFFFFFFF
 DE, CS, HS, DA, FA = range(5)
 STATES = ["DE", "CS", "HS", "DA", "FA"]
 LOSS, TEXT, HALKA, NEUTRAL = 1, 2, 4, 8
-LENGTHS = {0x01: 24, 0x02: 6, 0x10: 14, 0x20: 12, 0x21: 6, 0x22: 8, 0x23: 6, 0x30: 6, 0x31: 5, 0x32: 5, 0x40: 5}
+LENGTHS = {0x01: 24, 0x02: 6, 0x10: 14, 0x20: 12, 0x21: 6, 0x22: 8, 0x23: 6, 0x30: 6, 0x31: 5, 0x32: 5, 0x40: 5,
+           0x50: 8}
 
 # An operand of a code: where it stands among the operands, its form, values in range at its limits, values out of
-# range next to them, and for the speed of a curve the kind that it belongs to.
-Operand = namedtuple("Operand", "code name at form good bad kind", defaults=[None])
+# range next to them, and for the speeds of a curve and of an event the place and values of the byte that they go by.
+Operand = namedtuple("Operand", "code name at form good bad going_by", defaults=[None])
 OPERANDS = [
     Operand(0x01, "flags", 0, "B", tuple(range(8)), (8, 16, 32, 64, 128)),
     Operand(0x01, "train speed", 1, "H", (10, 300), (9, 301)),
@@ -51,28 +52,40 @@ OPERANDS = [
     Operand(0x20, "id", 0, "B", (0, 254), (255,)),
     Operand(0x20, "kind", 1, "B", (0, 1), (2,)),
     Operand(0x20, "distance", 2, "H", (0, 10000), (10001,)),
-    Operand(0x20, "target", 4, "H", (10, 300), (9, 301), 0),
-    Operand(0x20, "release speed", 4, "H", (10, 40), (9, 11, 39, 41), 1),
+    Operand(0x20, "target", 4, "H", (10, 300), (9, 301), (1, (0,))),
+    Operand(0x20, "release speed", 4, "H", (10, 40), (9, 11, 39, 41), (1, (1,))),
     Operand(0x20, "gradient", 6, "b", (-30, 30), (-31, 31, -128, 127)),
     Operand(0x21, "id", 0, "B", (0, 254), (255,)),
     Operand(0x22, "id", 0, "B", (0, 254), (255,)),
     Operand(0x22, "speed", 1, "H", (10, 300), (9, 301)),
     Operand(0x23, "id", 0, "B", (0, 254), (255,)),
     Operand(0x30, "stop", 0, "B", (0, 1, 2), (3,)),
+    Operand(0x50, "event", 0, "B", (0, 1, 2, 3, 4, 5, 6), (7, 255)),
+    Operand(0x50, "speed of a GMD", 1, "H", (10, 300), (0, 9, 301), (0, (1,))),
+    *(Operand(0x50, f"speed of event {event}", 1, "H", (0,), (1, 10, 256, 300), (0, (event,))) for event in (0, 2, 3, 4, 5, 6)),
 ]
 
 # What each code is answered in DE, CS, HS, DA and FA, all else being in order.
 CODES = {0x01: (0, 0, 0, 0, 0), 0x10: (0, 0, 0, 0, 8), 0x20: (10, 10, 0, 0, 8), 0x21: (10, 10, 0, 0, 8),
          0x22: (10, 10, 0, 0, 8), 0x23: (10, 10, 0, 0, 8), 0x30: (10, 10, 10, 0, 8), 0x31: (10, 10, 0, 0, 8),
-         0x32: (10, 10, 10, 0, 8), 0x40: (0, 14, 14, 14, 8)}
+         0x32: (10, 10, 10, 0, 8), 0x40: (0, 14, 14, 14, 8), 0x50: (10, 10, 0, 0, 8)}
 # What command 02 is answered, from each state to DE, CS, HS, DA and FA, where there is a reference pressure.
 PATHS = ((10, 0, 10, 0, 0), (10, 10, 0, 10, 0), (10, 0, 10, 0, 0), (10, 0, 10, 10, 0), (8, 8, 8, 8, 8))
 
 # Two refusals that one command can meet. 9 and 11 cannot (an order of DA is in range), nor 10 and 13 (where 20 and 22
 # are not allowed nothing is held), and 11, 12 and 13 are of different codes. 14 and 15 are of a code that has no operands
-# and is never 10, and a test runs in DE alone.
-PAIRS = [(5, 6), (5, 9)] + [(6, n) for n in range(7, 16)] + [(7, n) for n in range(8, 16)] + [
-    (8, n) for n in range(9, 15)] + [(9, 10), (9, 12), (9, 13), (10, 11), (10, 12)]
+# and is never 10, and a test runs in DE alone. 16 is of a code of its own.
+PAIRS = [(5, 6), (5, 9)] + [(6, n) for n in range(7, 17)] + [(7, n) for n in range(8, 17)] + [
+    (8, n) for n in (*range(9, 15), 16)] + [(9, 10), (9, 12), (9, 13), (9, 16), (10, 11), (10, 12), (10, 16)]
+
+# Table 4.4-4 of 001 with what 02 adds to it: for each area the area after events 0 to 6, None where the event is not taken. Event 3
+# leads from 8 to 4 too, 50 m on.
+AREAS = {7: (4, 4, None, None, None, 9, 8),
+         4: (None, 4, None, None, 7, 9, 8),
+         9: (4, None, None, None, 7, None, 8),
+         8: (None, None, 4, 8, 7, 9, None)}
+GMD, NO_OVERLAP = 1, 3
+KEEPING = ["event 0", "event 2", "event 3", "event 4", "event 5", "event 6", "a GMD inside", "the 50 m"]
 
 # The causes' strengths: soft, full, emergency.
 STRENGTHS = "SEFSEEEFFSSE"
@@ -96,8 +109,8 @@ def claims():
     yield "States", [f"{code:02X} in {name}: {answer}" for code, row in CODES.items() for name, answer in zip(STATES, row)]
     yield "Paths", [f"{STATES[a]} to {STATES[b]}: {PATHS[a][b]}" for a in range(5) for b in range(5)] + [
         "DE to DA: 11", "HS to DA: 11", "CS to DA: 10 without a reference"]
-    yield "Answers", [f"answer {n}" for n in (0, *range(4, 16), 100)] + [f"{code:02X} again" for code in LENGTHS] + [
-        "again in FA", "again after a refusal", *(f"again where {n} would refuse" for n in (10, 12, 15)),
+    yield "Answers", [f"answer {n}" for n in (0, *range(4, 17), 100)] + [f"{code:02X} again" for code in LENGTHS] + [
+        "again in FA", "again after a refusal", *(f"again where {n} would refuse" for n in (10, 12, 15, 16)),
         "again, with ground under a curve", "same number, other bytes: 7",
         "FFFFFFFF accepted", "after FFFFFFFF: 6", "after FFFFFFFF: 7", "after FFFFFFFF: 100", "after FFFFFFFF: a start",
         "a refused number accepted", "12 of a curve", "12 of a section", "12 of an ending section", "13 of a curve",
@@ -110,7 +123,7 @@ def claims():
         f"reference set in {name}" for name in ("DE", "CS", "HS")]
     yield "Curves", [
         "a curve shown at d 0", "a curve removed by 21", "VMAX by the train", "VMAX by a section",
-        "VMAX by an ending section", "VMAX by the 40", "ending section 1 cm before the length", "section gone at the length",
+        "VMAX by an ending section", "VMAX by the 40", "VMAX by the area", "ending section 1 cm before the length", "section gone at the length",
         "a proceed signal ends the 40", "permitted speed is VMAX", "permitted speed below VMAX"]
     yield "Causes and release", [f"report in {name}" for name in ("DE", "CS", "HS", "DA")] + [
         "ground in HS under a curve", "DA entered at VMAX+10", "LOSS held from before DA releases nothing",
@@ -199,11 +212,43 @@ def claims():
         "bit 11 at T_B with the extra", "failed at T_B with the extra"]
     yield "F-4", [f"row {name}, drop {word}" for name, row in ROWS.items() for word, is_so in (("sufficient", True), ("insufficient", False))
                   if row[2] in (None, is_so)]
+    yield "F-6", [
+        f"event {event} in area {area}, {name}: {16 if to is None else 0}"
+        for area, row in AREAS.items() for event, to in enumerate(row) for name in ("HS", "DA")] + [
+        "event 3 again", "the report of the 50 m again"] + [
+        f"{words} in {name}" for words in ("4,999 cm: area 8", "5,000 cm: area 4", "5,001 cm: area 4") for name in ("HS", "DA")] + [
+        "the 50 m over HS and DA"] + [
+        f"the 50 m with {words} in between" for words in (
+            "a repeated report", "a refused report", "a second group", "an event refused 9", "an event refused 16",
+            "an event 3 again", "a curve, a section and a proceed signal", "a stop and a balise error")] + [
+        f"over 50 m from the group, ended by {words}: area {area}" for words, area in (
+            ("event 2", 4), ("event 4", 7), ("event 5", 9), ("CS", 8), ("a start", 8))] + [
+        "over 50 m from the group, ended by CS, in CS", "over 50 m from the group, ended by event 2: the GMD's speed stands",
+        "a group after one that was ended: 4,999 cm, area 8", "FA while the 50 m pend"] + [
+        f"over 50 m in {name} before the group, then 4,999 cm: area 8" for name in ("DE", "CS", "HS", "DA")] + [
+        "VMAX by 130", "VMAX by a GMD", "a GMD above 130", "a GMD above the train", "a train slower than 130", "a GMD inside, up",
+        "a GMD inside, down", "a section below 130 or the GMD", "an ending section below 130 or the GMD", "a GMD below a section",
+        "the 40 below 130 or the GMD", "a GMD below the 40"] + [
+        f"VMAX above 130 in area {area}" for area in (7, 9, 8)] + [
+        f"130 after a stay with a GMD, by {words}" for words in ("event 0", "event 2", "the 50 m")] + [
+        "a GMD after a stay with another"] + [
+        f"{words} kept by CS" for words in ("130", "a GMD under 130", "a GMD above 130")] + [
+        "130 after a stay with a GMD and CS", "no 130 after a start from area 4",
+        "bit 0 at the report of the 50 m", "no bit 0 there a cm/s below", "bit 1 at the report of the 50 m", "no bit 1 there a cm/s below",
+        "50 lowers VMAX to the speed less 10: no cause", "then bit 0 at the next report", "50 raises VMAX: a release offered"] + [
+        f"an entering GMD deletes {words}, {name}" for words in ("a standing section", "an ending section") for name in ("HS", "DA")] + [
+        "an entering GMD raises VMAX", "12 of a deleted section", "12 of a deleted section that was ending",
+        "sixteen sections after sixteen deleted", "13 after those", "an entering GMD keeps the shown curve",
+        "an entering GMD keeps the 40"] + [
+        f"{words} keeps {kind}" for words in KEEPING for kind in ("a standing section", "an ending section")] + [
+        "area 8 in DE"] + [f"area {area} in {name}" for area in AREAS for name in STATES[1:]] + [
+        f"area {area} kept from {way}" for area in AREAS for way in ("HS to DA", "DA to CS", "HS to CS", "CS to HS", "DA to FA")] + [
+        f"a start from area {area}" for area in AREAS] + ["FA by the emergency check in area 4"]
     yield "Figures", [
         "VMAX 100: 3,055 no order", "VMAX 100: 3,056 bit 0", "VMAX 100: 2,916 offered", "VMAX 100: 2,917 not offered",
         "P_FULL 380: 956 kPa gives 500 and the message", "full 700: 490 measured frees bit 6", "full 700: 489 doesn't"]
-    yield "Areas", [f"area written at {n}" for n in (0, 100)] + [f"area left alone at {n}" for n in range(1, 16)] + [
-        f"area of {n} bytes: 1" for n in (0, 14, 17, 19, 32)] + [f"1 before {n}" for n in (2, 3, 4)] + [
+    yield "Areas", [f"area written at {n}" for n in (0, 100)] + [f"area left alone at {n}" for n in range(1, 17)] + [
+        f"area of {n} bytes: 1" for n in (0, 14, 18, 20, 32)] + [f"1 before {n}" for n in (2, 3, 4)] + [
         f"area left alone at {words}" for words in ("12 of a curve", "12 of a section", "12 of an ending section",
                                                     "13 of a curve", "13 of a section")] + [
         "a refused number accepted, with an area"]
@@ -243,6 +288,72 @@ class BrakeTest:
         return pressures.f32(self.saved - p)
 
 
+class Track:
+    """The area since a start, with the GMDs of the stay in it, the ground from a group on and the sections, all as they were told."""
+
+    def __init__(self, train_length, ended=None):
+        self.length = train_length
+        self.area, self.by = 8, "a start"
+        self.gmds, self.group = [], None  # of this stay; the reports' ground since the first group
+        self.between, self.states = set(), set()
+        self.ended = ended  # what ended a group, and the ground from it on
+        self.anew = self.in_cs = self.earlier = self.earlier_in_cs = False
+        self.before = Counter()  # ground in each state while no group pends
+        self.sections = {}  # id to speed, and ground since its end
+        self.deleted = {}  # id to whether it was ending
+
+    @property
+    def ground(self):
+        return None if self.group is None else sum(self.group)
+
+    def limit(self):
+        """What VMAX takes of the area."""
+        return [(self.gmds or [130])[-1]] if self.area == 4 else []
+
+    def enter(self, area, by):
+        if self.area == 4 and self.gmds:
+            self.earlier, self.earlier_in_cs = True, self.in_cs
+        self.end_group(by)
+        self.area, self.by, self.gmds, self.in_cs = area, by, [], False
+
+    def end_group(self, by):
+        self.ended = (by, self.ground) if self.group is not None and by != "the 50 m" else None
+        self.group = None
+
+    def passes(self, event, speed):
+        """An event that is taken."""
+        if event == NO_OVERLAP and self.group is None:
+            self.group, self.between, self.states = [], set(), set()
+            self.anew, self.ended = self.ended is not None, None
+        elif event == NO_OVERLAP:
+            self.between.add("a second group")
+        elif not (event == GMD and self.area == 4):
+            if event == GMD:
+                self.deleted = {ident: ground is not None for ident, (_, ground) in self.sections.items()}
+                self.sections = {}
+            self.enter(AREAS[self.area][event], f"event {event}")
+        if event == GMD:
+            self.gmds.append(speed)
+
+    def moves(self, ground, state):
+        """A report in HS or DA: its ground is of sections that end, and of the group."""
+        for ident, (speed, on) in list(self.sections.items()):
+            if on is not None and on + ground >= self.length:
+                del self.sections[ident]
+            elif on is not None:
+                self.sections[ident] = speed, on + ground
+        if self.group is None:
+            return
+        self.group.append(ground)
+        if ground:
+            self.states.add(state)
+        if self.ground >= 5000:
+            self.enter(4, "the 50 m")
+
+    def vmax(self, train_speed, forty):
+        return min([train_speed] + [40] * forty + [speed for speed, _ in self.sections.values()] + self.limit())
+
+
 class Coverage:
     def __init__(self):
         self.claims = list(claims())
@@ -268,6 +379,7 @@ class Coverage:
         self.figure_before = None
         self.error = None
         self.test = self.tested = None
+        self.track = None
         at_byte = 0
         for self.line, text in enumerate(lines, 1):
             length = LENGTHS.get(stream[at_byte], 0)
@@ -288,6 +400,8 @@ class Coverage:
         again = self.unit.started and raw == self.unit.last
         self.refusals(code, number, operands, state, again, answer)
         self.operands(code, operands, state, answer)
+        if code == 0x50 and answer in (0, 16):
+            self.see(f"event {operands[0]} in area {self.track.area}, {STATES[state]}: {answer}")
         if answer == 0:
             self.see(f"{code:02X} accepted")
             before = self.picture()
@@ -300,6 +414,7 @@ class Coverage:
             self.see("a refused report in between", code == 0x10 and self.is_held())
             self.see("an error again, and refused", code == 0x32 and self.is_held())
             self.refused_in_test(code, answer)
+            self.refused_on_track(code, operands, answer)
             self.expect(not report, "a refusal has no report")
             self.refused_numbers.add(number)
             self.refused_since = True
@@ -324,7 +439,7 @@ class Coverage:
         self.expect(answer == expected, f"the answer is {answer}, not {expected}")
         if answer == 100:
             for n in meets:
-                if n in (10, 12, 15):
+                if n in (10, 12, 15, 16):
                     self.see(f"again where {n} would refuse")
         for n in meets[1:]:
             if (meets[0], n) in PAIRS and answer == meets[0]:
@@ -351,6 +466,9 @@ class Coverage:
             return [10] * (state == FA or PATHS[state][to] == 10) + [11] * (to == DA and unit.reference is None)
         if code == 0x40:
             return [14] * (state != DE) + [15] * (self.test is not None)
+        if code == 0x50:
+            untaken = operands[0] < 7 and AREAS[self.track.area][operands[0]] is None
+            return [10] * (state not in (HS, DA)) + [16] * untaken
         meets = [10] * (state == FA and code not in (0x01, 0x10) or CODES[code][state] == 10)
         if code == 0x21:
             meets += [12] * (operands[0] not in unit.curves)
@@ -362,7 +480,7 @@ class Coverage:
         return meets
 
     def operands(self, code, operands, state, answer):
-        if answer in (0, *range(9, 16)):
+        if answer in (0, *range(9, 17)):
             self.expect((answer == 9) != in_range(code, operands), "9 is for an operand out of range")
             for o in OPERANDS:
                 if applies(o, code, operands):
@@ -394,6 +512,7 @@ class Coverage:
         self.see("a repeat in between counts nothing", code == 0x10 and self.test is not None)
         self.see("order 2 again", report[:2] == b"\0\2")
         self.expect(report == self.report, "the report of a repeat is the last one")
+        self.repeated_on_track(code, operands)
         self.see("again in FA", report[0] == FA)
         self.see("again after a refusal", self.refused_since)
         self.see("again, with ground under a curve",
@@ -433,6 +552,7 @@ class Coverage:
         else:
             self.told(code, operands, before, report)
         self.tests(code, operands, before, report)
+        self.on_track(code, operands, before, report)
         if unit.state in (DA, FA):
             self.braking(code, before, report)
         self.written(report)
@@ -726,6 +846,203 @@ class Coverage:
         self.see("permitted speed by the extra", permitted < min([self.unit.vmax] + [curves.permitted(plain, c) for c in held.values()]))
         self.see("a figure by the extra", curves.to_change(train, shown, v) != curves.to_change(plain, shown, v))
 
+    # -- F-6: the area is kept here, with all that it goes by
+
+    def on_track(self, code, operands, before, report):
+        was = self.track and (self.track.area, self.track.by, self.track.ground)
+        if code == 0x01:
+            self.track_started()
+        elif code == 0x02:
+            self.track_entered(before.state, operands[0])
+        elif code == 0x10:
+            self.track_moved(before, *struct.unpack(">HH", operands[:4]), report)
+        elif code == 0x50:
+            self.track_passed(*struct.unpack(">BH", operands), before, report)
+        elif code == 0x22:
+            self.track.sections[operands[0]] = struct.unpack(">H", operands[1:])[0], None
+            new = set(self.track.sections) - set(self.track.deleted)
+            self.see("sixteen sections after sixteen deleted", len(new) == 16 == len(self.track.deleted))
+        elif code == 0x23:
+            self.track.sections[operands[0]] = self.track.sections[operands[0]][0], 0
+        if self.track.group is not None and code in (0x20, 0x21, 0x22, 0x23, 0x31):
+            self.track.between.add("a curve, a section and a proceed signal")
+        if self.track.group is not None and code in (0x30, 0x32):
+            self.track.between.add("a stop and a balise error")
+        self.at_50_m = was is not None and (was[0], self.track.area, self.track.by) == (8, 4, "the 50 m") and code == 0x10
+        self.expect(report[18] == self.track.area, "the area is the one that was entered last")
+        self.see(f"area {report[18]} in {STATES[report[0]]}")
+        if report[0] == DA:
+            self.track_vmax(report)
+
+    def track_started(self):
+        old = self.track
+        if old is not None:
+            self.see(f"a start from area {old.area}")
+            old.end_group("a start") if old.group is not None else None
+        self.track = Track(100 * self.unit.train["length"], old.ended if old and old.ended and old.ended[0] == "a start" else None)
+        self.from_4 = old is not None and old.area == 4
+        self.lowered = False
+
+    def track_entered(self, state, to):
+        track = self.track
+        if (state, to) in ((HS, DA), (DA, CS), (HS, CS), (CS, HS), (DA, FA)):
+            self.see(f"area {track.area} kept from {STATES[state]} to {STATES[to]}")
+        self.see("FA while the 50 m pend", to == FA and track.group is not None)
+        if to == CS:
+            if track.group is not None:
+                track.end_group("CS")
+            track.in_cs, track.sections = True, {}
+
+    def track_moved(self, before, v, moved, report):
+        track, state = self.track, before.state
+        counted = track.ground
+        if state in (HS, DA):
+            track.moves(moved, state)
+        if counted is None:
+            track.before[state] += moved
+            self.track_after_end(moved, state, report)
+        else:
+            self.track_counted(counted + moved, state, report)
+            if state == DA and track.area == 4:
+                self.track_judged(before, v, report)
+        if state == DA:
+            self.see("then bit 0 at the next report", self.lowered and report[3] & 1)
+            self.lowered = False
+        self.see("FA by the emergency check in area 4", (state, report[0], report[18]) == (DA, FA, 4))
+
+    def track_counted(self, ground, state, report):
+        """The ground from a group on, at a report."""
+        track, name = self.track, STATES[state]
+        self.see(f"4,999 cm: area 8 in {name}", ground == 4999 and report[18] == 8)
+        self.see(f"5,000 cm: area 4 in {name}", ground == 5000 and report[18] == 4)
+        self.see(f"5,001 cm: area 4 in {name}", ground == 5001 and report[18] == 4)
+        if ground == 4999 and report[18] == 8:
+            self.see("a group after one that was ended: 4,999 cm, area 8", track.anew)
+            for before, far in track.before.items():
+                self.see(f"over 50 m in {STATES[before]} before the group, then 4,999 cm: area 8", far > 5000)
+        if report[18] == 4:
+            self.see("the 50 m over HS and DA", track.states == {HS, DA})
+            for words in track.between:
+                self.see(f"the 50 m with {words} in between", ground == 5000)
+            self.track_kept("the 50 m", report)
+            track.before.clear()
+
+    def track_judged(self, before, v, report):
+        """The report of the 50 m in DA, where nothing but 130 is at the limit."""
+        if before.causes or report[6:8] != b"\0\x82":
+            return
+        margin = self.unit.train["e_margin"]
+        self.see("bit 0 at the report of the 50 m", v == at(140) and report[3] & 1)
+        self.see("no bit 0 there a cm/s below", v == at(140) - 1 and not report[3] & 1)
+        self.see("bit 1 at the report of the 50 m", v == at(130 + margin) and report[3] & 2)
+        self.see("no bit 1 there a cm/s below", v == at(130 + margin) - 1 and not report[3] & 2)
+
+    def track_after_end(self, moved, state, report):
+        """Ground after what ended a group, up to over 50 m in all since."""
+        track = self.track
+        if track.ended is None:
+            return
+        by, ground = track.ended
+        track.ended = by, ground + moved
+        if ground + moved > 5000:
+            self.see("over 50 m from the group, ended by CS, in CS", by == "CS" and state == CS and report[18] == 8)
+            if state in (HS, DA) and (by == "CS" or by == "a start" or by == track.by):
+                self.see(f"over 50 m from the group, ended by {by}: area {report[18]}")
+            self.see("over 50 m from the group, ended by event 2: the GMD's speed stands",
+                     by == "event 2" and report[0] == DA and track.gmds and report[6:8] == struct.pack(">H", track.gmds[-1]))
+
+    def track_passed(self, event, speed, before, report):
+        track, state = self.track, before.state
+        was, held, standing = track.area, dict(track.sections), track.gmds[-1:]
+        track.passes(event, speed)
+        if event == GMD and was == 4:
+            self.see("a GMD inside, up", report[0] == DA and report[6:8] > self.report[6:8] and standing)
+            self.see("a GMD inside, down", report[0] == DA and report[6:8] < self.report[6:8] and standing)
+            self.track_kept("a GMD inside", report)
+        elif event == GMD:
+            self.gmd_entered(held, before, report)
+        else:
+            self.track_kept(f"event {event}", report)
+        if state == DA:
+            vmax = struct.unpack(">H", report[6:8])[0]
+            lower = report[6:8] < self.report[6:8]
+            self.lowered = lower and before.v >= at(vmax + 10) and not report[3] & 1
+            self.see("50 lowers VMAX to the speed less 10: no cause", self.lowered)
+            self.see("50 raises VMAX: a release offered", report[6:8] > self.report[6:8] and report[13] == 1 > self.report[13])
+
+    def gmd_entered(self, held, before, report):
+        name = STATES[before.state]
+        self.expect(not self.unit.sections, "an entering GMD deletes all sections")
+        for _, ground in held.values():
+            self.see(f"an entering GMD deletes {'a standing' if ground is None else 'an ending'} section, {name}")
+        if report[0] == DA and held:
+            self.see("an entering GMD raises VMAX", report[6:8] > self.report[6:8])
+            self.see("an entering GMD keeps the shown curve", report[8] == self.report[8] != 255)
+            self.see("an entering GMD keeps the 40", before.forty and report[6:8] == b"\0\x28")
+
+    def track_kept(self, words, report):
+        """In DA, with VMAX by a section."""
+        least = [ground for speed, ground in self.track.sections.values() if report[6:8] == struct.pack(">H", speed)]
+        if report[0] == DA and len(least) == 1 and self.track.sections:
+            self.see(f"{words} keeps {'a standing' if least[0] is None else 'an ending'} section")
+
+    def track_vmax(self, report):
+        """VMAX in DA, by what is kept here."""
+        track, train, forty = self.track, self.unit.train["speed"], self.unit.forty
+        vmax = struct.unpack(">H", report[6:8])[0]
+        self.expect(vmax == track.vmax(train, forty), "VMAX has the area's part")
+        if track.area != 4:
+            self.see(f"VMAX above 130 in area {track.area}", vmax > 130)
+            self.see("no 130 after a start from area 4", self.from_4 and vmax > 130)
+            return
+        limit, = track.limit()
+        standing = [speed for speed, ground in track.sections.values() if ground is None]
+        ending = [speed for speed, ground in track.sections.values() if ground is not None]
+        others = [train, *standing, *ending] + [40] * forty
+        self.see("VMAX by 130", vmax == 130 < min(others) and not track.gmds)
+        self.see("VMAX by a GMD", vmax == limit < min(others) and track.gmds)
+        self.see("a GMD above 130", vmax == limit > 130)
+        self.see("a GMD above the train", track.gmds and vmax == train < limit)
+        self.see("a train slower than 130", not track.gmds and vmax == train < 130)
+        self.see("a section below 130 or the GMD", vmax in standing and vmax < min([limit, train, *ending]))
+        self.see("an ending section below 130 or the GMD", vmax in ending and vmax < min([limit, train, *standing]))
+        self.see("a GMD below a section", track.gmds and vmax == limit < min(standing, default=0))
+        self.see("the 40 below 130 or the GMD", forty and vmax == 40 < limit)
+        self.see("a GMD below the 40", forty and vmax == limit < 40)
+        self.track_stay(vmax == limit)
+
+    def track_stay(self, is_limit):
+        """Whose speed counts: of this stay, over CS too, and of none before it."""
+        track = self.track
+        if track.gmds and is_limit:
+            self.see("a GMD after a stay with another", track.by == "event 1" and track.earlier)
+            self.see("a GMD under 130 kept by CS", track.in_cs and track.gmds[-1] < 130)
+            self.see("a GMD above 130 kept by CS", track.in_cs and track.gmds[-1] > 130)
+        elif is_limit:
+            self.see("130 kept by CS", track.in_cs)
+            if track.earlier:
+                self.see(f"130 after a stay with a GMD, by {track.by}")
+                self.see("130 after a stay with a GMD and CS", track.earlier_in_cs)
+
+    def repeated_on_track(self, code, operands):
+        self.see("event 3 again", code == 0x50 and operands[0] == NO_OVERLAP)
+        self.see("the report of the 50 m again", code == 0x10 and self.at_50_m)
+        if self.track.group is not None:
+            self.track.between |= {"a repeated report"} if code == 0x10 else {"an event 3 again"} if code == 0x50 else set()
+
+    def refused_on_track(self, code, operands, answer):
+        track = self.track
+        if track is None:
+            return
+        if track.group is not None:
+            self.track.between |= {"a refused report"} if code == 0x10 else set()
+            if code == 0x50 and answer in (9, 16):
+                track.between.add(f"an event refused {answer}")
+        if code == 0x23 and answer == 12 and operands[0] in track.deleted:
+            self.see("12 of a deleted section that was ending" if track.deleted[operands[0]] else "12 of a deleted section")
+        new = set(track.sections) - set(track.deleted)
+        self.see("13 after those", code == 0x22 and answer == 13 and len(new) == 16 == len(track.deleted))
+
     # -- F-2: an error is kept here with its speed, and with the number of reports in DA since
 
     def is_held(self):
@@ -945,7 +1262,7 @@ class Coverage:
         self.see(f"TRYCKGIVARFEL in {STATES[state]}", report[12] & 4)
         if state != DA:
             ordered = 3 if state == FA else order if state == DE else 0  # in DE: see messages
-            outside = bytes([state, ordered, 0, 0, 0, 0, 0, 0, 255, 0, 0, 0, report[12], 0, 255, 255, 255, 255])
+            outside = bytes([state, ordered, 0, 0, 0, 0, 0, 0, 255, 0, 0, 0, report[12], 0, 255, 255, 255, 255, self.track.area])
             self.expect(report == outside, "the report outside DA")
             self.see("outside DA")
             self.see("at the report that leads to FA", state == FA and self.report is not None and self.report[0] == DA)
@@ -957,7 +1274,8 @@ class Coverage:
         self.see("permitted speed is VMAX" if permitted == vmax else "permitted speed below VMAX")
         limits = {"VMAX by the train": [unit.train["speed"]], "VMAX by the 40": [40] * unit.forty,
                   "VMAX by a section": [s for s, g in unit.sections.values() if g is None],
-                  "VMAX by an ending section": [s for s, g in unit.sections.values() if g is not None]}
+                  "VMAX by an ending section": [s for s, g in unit.sections.values() if g is not None],
+                  "VMAX by the area": self.track.limit()}
         least = [name for name, speeds in limits.items() if vmax in speeds]
         if len(least) == 1:
             self.see(least[0])
@@ -971,7 +1289,7 @@ class Coverage:
 
     def change(self, report):
         """The figure of the shown curve, by halving, and what the report before it told."""
-        unit, figure = self.unit, struct.unpack(">I", report[14:])[0]
+        unit, figure = self.unit, struct.unpack(">I", report[14:18])[0]
         if report[8] == 255:
             self.expect(figure == LAST, "no figure where no curve is shown")
             self.see("no curve")
@@ -1023,7 +1341,7 @@ class Coverage:
             self.see("past the permitted boundary in B, no change",
                      interval == now == "B" and not over and curves.reached(train, shown, v, "permitted"))
         elif (train_then, v_then) == (train, v) and then != shown:
-            self.see("another command writes it anew", self.figure_before[6] != struct.unpack(">I", report[14:])[0])
+            self.see("another command writes it anew", self.figure_before[6] != struct.unpack(">I", report[14:18])[0])
 
     def row(self, report, past):
         """The one row that holds for what is shown."""
@@ -1126,7 +1444,7 @@ class Coverage:
 
 
 def applies(o, code, operands):
-    return o.code == code and (o.kind is None or o.kind == operands[1])
+    return o.code == code and (o.going_by is None or operands[o.going_by[0]] in o.going_by[1])
 
 
 def operand(o, operands):

@@ -5,7 +5,7 @@
 
 The stream comes from tests/trips.py and the expected lines from tests/plain.rs, which know nothing of the definitions. The checker
 computes the same stream over `callOf` and `areaOf` of crates/rules/specs, in a copy of the repository, and has to find every answer
-and every area equal. The last four bytes of a report are a largest number, which would be walked to; they are computed by the
+and every area equal. Bytes 14 to 17 of a report are a largest number, which would be walked to; they are computed by the
 division that rules/proofs/ChangeFigures proves equal to it. A few hundred commands take some seconds; from about 400 on the checker
 may stop at its step limit.
 """
@@ -18,7 +18,7 @@ import tempfile
 
 HERE = os.path.dirname(os.path.abspath(__file__))
 ROOT = os.path.dirname(HERE)
-LENGTHS = {0x01: 24, 0x02: 6, 0x10: 14, 0x20: 12, 0x21: 6, 0x22: 8, 0x23: 6, 0x30: 6, 0x31: 5, 0x32: 5, 0x40: 5}
+LENGTHS = {0x01: 24, 0x02: 6, 0x10: 14, 0x20: 12, 0x21: 6, 0x22: 8, 0x23: 6, 0x30: 6, 0x31: 5, 0x32: 5, 0x40: 5, 0x50: 8}
 UNTOUCHED = 7  # what every byte of a lent area holds
 
 PROOF = """-- A stream, computed over the definitions.
@@ -48,7 +48,7 @@ abbrev change : Stm → ℕ
 change stm = cond (isIn State.DA stm) (dividedOf (stm .train) (stm .kept) (shown stm)) never
 
 abbrev area : Moment → List ℕ
-area m = take 14 (m .area) ++ cond (isAnswered (m .answer)) (four (change (m .stm)) []) (drop 14 (m .area))
+area m = take 14 (m .area) ++ cond (isAnswered (m .answer)) (four (change (m .stm)) (drop 18 (m .area))) (drop 14 (m .area))
 
 abbrev told : List Moment → List ℕ
 told [] = []
@@ -86,7 +86,7 @@ def expected_of(lines):
     numbers = []
     for line in lines:
         answer, _, report = line.partition(" ")
-        numbers += [int(answer), *(bytes.fromhex(report) or bytes([UNTOUCHED] * 18))]
+        numbers += [int(answer), *(bytes.fromhex(report) or bytes([UNTOUCHED] * 19))]
     return numbers
 
 

@@ -6,7 +6,7 @@ import os
 CRATES = os.path.join(os.path.dirname(os.path.dirname(os.path.abspath(__file__))), "crates")
 # The start of 01's example, and its line.
 START = bytes.fromhex("01 00000001 00 00A0 0190 02BC 01F4 1E 14 14 1E 0A 0F 32 017C 0D")
-STARTED = b"0 0000000000000000FF0000000000FFFFFFFF\n"
+STARTED = b"0 0000000000000000FF0000000000FFFFFFFF08\n"
 
 ENDS = {
     # An empty rest ends it with no line.

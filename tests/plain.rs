@@ -22,9 +22,10 @@ const STOP_PASSED: u8 = 0x30;
 const PROCEED: u8 = 0x31;
 const BALISE_ERROR: u8 = 0x32;
 const TEST_BRAKES: u8 = 0x40;
+const AREA_EVENT: u8 = 0x50;
 
 /// Every code with its whole length in bytes.
-const LENGTHS: [(u8, usize); 11] = [
+const LENGTHS: [(u8, usize); 12] = [
     (START, 24),
     (STATE, 6),
     (ODOMETER, 14),
@@ -36,6 +37,7 @@ const LENGTHS: [(u8, usize); 11] = [
     (PROCEED, 5),
     (BALISE_ERROR, 5),
     (TEST_BRAKES, 5),
+    (AREA_EVENT, 8),
 ];
 const LONGEST: usize = 24;
 
@@ -104,6 +106,28 @@ struct Section {
     ending: Option<i64>,
 }
 
+/// The areas of the track, with their digits (F-6).
+#[derive(Clone, Copy, PartialEq, Eq, Debug)]
+enum Area {
+    Partial = 4,
+    NonEquipped = 7,
+    Full = 8,
+    Ht = 9,
+}
+
+/// What command 50 tells of.
+#[derive(Clone, Copy)]
+enum Event {
+    /// A main or distant signal without full HT information.
+    Signal,
+    Gmd(i64),
+    /// A balise error that deletes HT information.
+    HtDeleted,
+    /// A group without overlap.
+    NoOverlap,
+    Entry(Area),
+}
+
 enum Command {
     Start(Train),
     State(State),
@@ -116,6 +140,7 @@ enum Command {
     Proceed,
     BaliseError,
     TestBrakes,
+    AreaEvent(Event),
 }
 
 fn wide(bytes: &[u8], at: usize) -> i64 {
@@ -221,6 +246,21 @@ fn decode(code: u8, o: &[u8]) -> Option<Command> {
         PROCEED => Some(Command::Proceed),
         BALISE_ERROR => Some(Command::BaliseError),
         TEST_BRAKES => Some(Command::TestBrakes),
+        AREA_EVENT => event_of(o[0], wide(o, 1)).map(Command::AreaEvent),
+        _ => None,
+    }
+}
+
+/// The event of this number with this speed, which is 0 where there is none.
+fn event_of(number: u8, speed: i64) -> Option<Event> {
+    match (number, speed) {
+        (0, 0) => Some(Event::Signal),
+        (1, 10..=300) => Some(Event::Gmd(speed)),
+        (2, 0) => Some(Event::HtDeleted),
+        (3, 0) => Some(Event::NoOverlap),
+        (4, 0) => Some(Event::Entry(Area::NonEquipped)),
+        (5, 0) => Some(Event::Entry(Area::Ht)),
+        (6, 0) => Some(Event::Entry(Area::Full)),
         _ => None,
     }
 }
@@ -475,6 +515,25 @@ impl Curve {
     }
 }
 
+// ---------------------------------------------------------------- areas
+
+/// km/h: the most in the partially equipped area where no GMD was passed.
+const DARK: i64 = 130;
+/// cm from the first group without overlap to the partially equipped area.
+const OVERLAP_GROUND: i64 = 5_000;
+
+impl Area {
+    /// Whether an event is taken in this area: table 4.4-4 of 001, a GMD inside, and the entries.
+    fn takes(self, event: Event) -> bool {
+        match event {
+            Event::Signal => self == Area::NonEquipped || self == Area::Ht,
+            Event::Gmd(_) => self == Area::NonEquipped || self == Area::Partial,
+            Event::HtDeleted | Event::NoOverlap => self == Area::Full,
+            Event::Entry(to) => self != to,
+        }
+    }
+}
+
 // ---------------------------------------------------------------- unit
 
 const OVERSPEED: u16 = 1 << 0;
@@ -500,7 +559,7 @@ const CHECKED_DROP: f32 = 60.0;
 const UNTESTED: i64 = 50;
 const ROLLED_TOO_FAR: i64 = 500;
 
-type Report = [u8; 18];
+type Report = [u8; 19];
 
 /// A brake test that runs (F-3): its own pressure settles, then it brakes, counting the reports since.
 #[derive(Clone, Copy)]
@@ -535,6 +594,11 @@ struct Unit {
     test: Option<BrakeTest>,
     /// Whether the last brake test that ended passed.
     tested: Option<bool>,
+    area: Area,
+    /// The speed of the last GMD passed in this stay in the partially equipped area.
+    gmd: Option<i64>,
+    /// Ground since the first group without overlap, while the change of area pends.
+    since_group: Option<i64>,
 }
 
 impl Unit {
@@ -560,10 +624,13 @@ impl Unit {
             emergency_fault: false,
             test: None,
             tested: None,
+            area: Area::Full,
+            gmd: None,
+            since_group: None,
         }
     }
 
-    /// Refusals 10 to 15.
+    /// Refusals 10 to 16.
     fn refusal(&self, command: &Command) -> Option<u8> {
         let in_da = self.state == State::Da;
         let in_hs_or_da = in_da || self.state == State::Hs;
@@ -575,7 +642,8 @@ impl Unit {
             | Command::CurveEnd(_)
             | Command::Section(_)
             | Command::SectionEnd(_)
-            | Command::Proceed => in_hs_or_da,
+            | Command::Proceed
+            | Command::AreaEvent(_) => in_hs_or_da,
         };
         if !allowed {
             return Some(10);
@@ -604,6 +672,7 @@ impl Unit {
             }
             Command::TestBrakes if self.state != State::De => Some(14),
             Command::TestBrakes if self.test.is_some() => Some(15),
+            Command::AreaEvent(event) if !self.area.takes(*event) => Some(16),
             _ => None,
         }
     }
@@ -672,7 +741,32 @@ impl Unit {
                 self.begin_checks(before);
             }
             Command::TestBrakes => self.test = Some(BrakeTest::Settling(Phase::Waiting)),
+            Command::AreaEvent(event) => self.pass(event),
         }
+    }
+
+    /// An event that is taken in this area.
+    fn pass(&mut self, event: Event) {
+        match event {
+            Event::Signal | Event::HtDeleted => self.enter_area(Area::Partial),
+            Event::Gmd(speed) => {
+                if self.area != Area::Partial {
+                    self.sections.clear();
+                    self.enter_area(Area::Partial);
+                }
+                self.gmd = Some(speed);
+            }
+            Event::NoOverlap => {
+                self.since_group.get_or_insert(0);
+            }
+            Event::Entry(to) => self.enter_area(to),
+        }
+    }
+
+    fn enter_area(&mut self, to: Area) {
+        self.area = to;
+        self.gmd = None;
+        self.since_group = None;
     }
 
     fn enter(&mut self, next: State) {
@@ -693,6 +787,7 @@ impl Unit {
             self.service_check = None;
             self.emergency_check = None;
             self.service_fault = false;
+            self.since_group = None;
         }
     }
 
@@ -752,6 +847,10 @@ impl Unit {
         let length = self.train.length;
         self.sections
             .retain(|s| s.ending.is_none_or(|ground| ground < length));
+        self.since_group = self.since_group.map(|ground| ground + moved);
+        if self.since_group.is_some_and(|ground| ground >= OVERLAP_GROUND) {
+            self.enter_area(Area::Partial);
+        }
     }
 
     /// A report in DA, once moved and measured: adds causes, then releases.
@@ -912,6 +1011,9 @@ impl Unit {
         if self.forty {
             vmax = vmax.min(40);
         }
+        if self.area == Area::Partial {
+            vmax = vmax.min(self.gmd.unwrap_or(DARK));
+        }
         vmax
     }
 
@@ -928,10 +1030,11 @@ impl Unit {
     }
 
     fn report(&self) -> Report {
-        let mut report = [0; 18];
+        let mut report = [0; 19];
         report[0] = self.state as u8;
         report[8] = 255;
-        report[14..].fill(255);
+        report[14..18].fill(255);
+        report[18] = self.area as u8;
         report[12] = u8::from(self.service_fault)
             | u8::from(self.emergency_fault) << 1
             | u8::from(self.feedback.fault) << 2
@@ -983,7 +1086,7 @@ impl Unit {
             };
             report[11] = self.mode(interval, curve);
             let change = curve.to_change(&self.train, halka, self.speed);
-            report[14..].copy_from_slice(&change.to_be_bytes());
+            report[14..18].copy_from_slice(&change.to_be_bytes());
         }
         let releasable = self.releasable(vmax, braking);
         report[13] =
@@ -1032,7 +1135,7 @@ impl Host {
             unit: None,
             last: Vec::new(),
             number: 0,
-            report: [0; 18],
+            report: [0; 19],
         }
     }
 
@@ -1088,7 +1191,7 @@ impl Host {
 
 fn write_report(output: &mut impl Write, answer: u8, report: &Report) -> io::Result<()> {
     const DIGITS: &[u8; 16] = b"0123456789ABCDEF";
-    let mut text = [0; 36];
+    let mut text = [0; 38];
     for (pair, byte) in text.chunks_exact_mut(2).zip(report) {
         pair[0] = DIGITS[usize::from(byte >> 4)];
         pair[1] = DIGITS[usize::from(byte & 15)];
@@ -1232,9 +1335,9 @@ mod tests {
         ));
         assert_eq!(
             lines(&input),
-            "0 0000000000000000FF0000000000FFFFFFFF\n\
-             0 0100000000000000FF0000000000FFFFFFFF\n\
-             100 0100000000000000FF0000000000FFFFFFFF\n\
+            "0 0000000000000000FF0000000000FFFFFFFF08\n\
+             0 0100000000000000FF0000000000FFFFFFFF08\n\
+             100 0100000000000000FF0000000000FFFFFFFF08\n\
              10\n\
              3\n"
         );
@@ -1495,5 +1598,82 @@ mod tests {
         unit.obey(Command::TestBrakes);
         unit.obey(odometer(1, 0, 0, 0));
         assert_eq!((unit.tested, unit.train.extra), (Some(false), 0));
+    }
+
+    fn fast_unit() -> Unit {
+        let train = Train {
+            speed: 200,
+            ..example_train()
+        };
+        unit_in_da(train, 500.0)
+    }
+
+    /// Hands an event to the unit, refused or not; gives the area's digit and VMAX.
+    fn told(unit: &mut Unit, event: Event) -> (u8, i64) {
+        let command = Command::AreaEvent(event);
+        if unit.refusal(&command).is_none() {
+            unit.obey(command);
+        }
+        (unit.report()[18], unit.vmax())
+    }
+
+    #[test]
+    fn events_are_taken_by_the_table() {
+        let taken = [
+            (Area::NonEquipped, "0156"),
+            (Area::Partial, "1456"),
+            (Area::Ht, "046"),
+            (Area::Full, "2345"),
+        ];
+        for (area, numbers) in taken {
+            for number in 0..=6 {
+                let event = event_of(number, if number == 1 { 90 } else { 0 }).unwrap();
+                assert_eq!(area.takes(event), numbers.contains(char::from(b'0' + number)));
+            }
+        }
+        assert!(event_of(7, 0).is_none() && event_of(0, 10).is_none());
+        assert!(event_of(1, 9).is_none() && event_of(1, 301).is_none() && event_of(1, 0).is_none());
+    }
+
+    #[test]
+    fn the_area_changes_at_50_m() {
+        let mut unit = fast_unit();
+        assert_eq!(told(&mut unit, Event::NoOverlap), (8, 200));
+        for _ in 0..4 {
+            unit.obey(odometer(3900, 1200, 0, 0));
+        }
+        told(&mut unit, Event::NoOverlap);
+        unit.obey(odometer(3900, 199, 0, 0));
+        assert_eq!((unit.report()[18], unit.causes), (8, 0));
+        unit.obey(odometer(3900, 1, 0, 0));
+        assert_eq!((unit.report()[18], unit.vmax(), unit.causes), (4, 130, OVERSPEED));
+    }
+
+    #[test]
+    fn a_stay_has_its_own_speed() {
+        let mut unit = fast_unit();
+        assert_eq!(told(&mut unit, Event::HtDeleted), (4, 130));
+        assert_eq!(told(&mut unit, Event::Gmd(90)), (4, 90));
+        assert_eq!(told(&mut unit, Event::Gmd(170)), (4, 170));
+        assert_eq!(told(&mut unit, Event::Entry(Area::Ht)), (9, 200));
+        assert_eq!(told(&mut unit, Event::Gmd(90)), (9, 200));
+        assert_eq!(told(&mut unit, Event::Signal), (4, 130));
+    }
+
+    #[test]
+    fn an_entering_gmd_deletes_sections() {
+        let section = || {
+            Command::Section(Section {
+                id: 1,
+                speed: 50,
+                ending: None,
+            })
+        };
+        let mut unit = fast_unit();
+        unit.obey(section());
+        assert_eq!(told(&mut unit, Event::Entry(Area::NonEquipped)), (7, 50));
+        assert_eq!(told(&mut unit, Event::Gmd(100)), (4, 100));
+        unit.obey(section());
+        assert_eq!(told(&mut unit, Event::Gmd(110)), (4, 50));
     }
 }

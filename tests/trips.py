@@ -6,7 +6,7 @@
 The same seed and count always give the same stream. COUNT commands are written,
 each of a known code and its whole length. With "unknown" one byte that is no code
 follows them, with "short" a command that breaks off. With "by-01" the trips steer
-by 01 alone, as before F-2 and F-3 of 02: then they are the commands recorded before.
+by 01 alone, as before F-2, F-3 and F-6 of 02: then they are the commands recorded before.
 
 A picture of the unit is kept beside the stream, so that the trips know what would
 be taken next and where the limits lie. Only the stream is written.
@@ -21,9 +21,15 @@ DE, CS, HS, DA, FA = range(5)
 LOSS, TEXT, HALKA, NEUTRAL = 1, 2, 4, 8
 START, STATE, ODOMETER = 0x01, 0x02, 0x10
 CURVE, CURVE_END, SECTION, SECTION_END = 0x20, 0x21, 0x22, 0x23
-STOP_PASSED, PROCEED, BALISE_ERROR, TEST_BRAKES = 0x30, 0x31, 0x32, 0x40
+STOP_PASSED, PROCEED, BALISE_ERROR, TEST_BRAKES, AREA_EVENT = 0x30, 0x31, 0x32, 0x40, 0x50
 LENGTHS = {START: 24, STATE: 6, ODOMETER: 14, CURVE: 12, CURVE_END: 6, SECTION: 8,
-           SECTION_END: 6, STOP_PASSED: 6, PROCEED: 5, BALISE_ERROR: 5, TEST_BRAKES: 5}
+           SECTION_END: 6, STOP_PASSED: 6, PROCEED: 5, BALISE_ERROR: 5, TEST_BRAKES: 5, AREA_EVENT: 8}
+PARTIAL, NON_EQUIPPED, FULLY_EQUIPPED, HT = 4, 7, 8, 9
+SIGNAL, GMD, HT_DELETED, NO_OVERLAP, TO_NON_EQUIPPED, TO_HT, TO_FULLY_EQUIPPED = range(7)
+ENTRIES = {TO_NON_EQUIPPED: NON_EQUIPPED, TO_HT: HT, TO_FULLY_EQUIPPED: FULLY_EQUIPPED}
+TAKEN_FROM = {SIGNAL: (NON_EQUIPPED, HT), GMD: (NON_EQUIPPED, PARTIAL), HT_DELETED: (FULLY_EQUIPPED,),
+              NO_OVERLAP: (FULLY_EQUIPPED,), TO_NON_EQUIPPED: (PARTIAL, FULLY_EQUIPPED, HT),
+              TO_HT: (PARTIAL, NON_EQUIPPED, FULLY_EQUIPPED), TO_FULLY_EQUIPPED: (PARTIAL, NON_EQUIPPED, HT)}
 PATHS = {(DE, CS), (DE, DA), (CS, HS), (HS, CS), (HS, DA), (DA, CS)}
 EMERGENCY = 1 << 1 | 1 << 4 | 1 << 5 | 1 << 6 | 1 << 11
 START_FIELDS = (("flags", "B", 0, 7), ("speed", "H", 10, 300), ("length", "H", 10, 1000),
@@ -68,7 +74,7 @@ class Picture:
     """What the trips believe of the unit: all but its report."""
 
     def __init__(self, by_01=False):
-        """`by_01`: with the release of bit 9 and the flags that 01 has, before F-2 and F-3 of 02."""
+        """`by_01`: with the release of bit 9, the flags and the codes that 01 has, before F-2, F-3 and F-6 of 02."""
         self.by_01 = by_01
         self.start_fields = BY_01 if by_01 else START_FIELDS
         self.started = False
@@ -88,9 +94,16 @@ class Picture:
         self.test = None  # of a brake test that runs: phase, pressure and count
         self.tested = None  # whether the last one that ended passed
         self.extra = 50 if train["flags"] & 4 else 0
+        self.enter_area(FULLY_EQUIPPED)
         self.clear()
 
+    def enter_area(self, area):
+        self.area = area
+        self.gmd = 130  # the last GMD of a stay in the partially equipped area
+        self.pending = None  # ground since a group without overlap
+
     def clear(self):
+        self.pending = None
         self.curves = {}
         self.sections = {}
         self.forty = False
@@ -130,7 +143,7 @@ class Picture:
     @property
     def vmax(self):
         limits = [self.train["speed"]] + [speed for speed, _ in self.sections.values()]
-        return min(limits + [40] if self.forty else limits)
+        return min(limits + [40] * self.forty + [self.gmd] * (self.area == PARTIAL))
 
     def take_01(self, operands):
         values = struct.unpack(START_FORM, operands)
@@ -171,6 +184,10 @@ class Picture:
                         del self.sections[number]
                     else:
                         self.sections[number] = (speed, ground + moved)
+            if self.pending is not None:
+                self.pending += moved
+                if self.pending >= 5000:
+                    self.enter_area(PARTIAL)
         self.measure(half)
         fresh = buttons & ~self.buttons
         self.v, self.buttons = v, buttons
@@ -258,6 +275,24 @@ class Picture:
         if self.test is not None:
             return 15
         self.test = ("waiting", 0.0, 0)
+        return 0
+
+    def take_50(self, operands):
+        event, speed = struct.unpack(">BH", operands)
+        if event > TO_FULLY_EQUIPPED or speed not in (range(10, 301) if event == GMD else (0,)):
+            return 9
+        if self.state not in (HS, DA):
+            return 10
+        if self.area not in TAKEN_FROM[event]:
+            return 16
+        if event == NO_OVERLAP:
+            self.pending = self.pending or 0
+        elif event == GMD and self.area == PARTIAL:
+            self.gmd = speed
+        else:
+            self.enter_area(ENTRIES.get(event, PARTIAL))
+            if event == GMD:
+                self.gmd, self.sections = speed, {}
         return 0
 
     def try_brakes(self, v, half):
@@ -423,7 +458,7 @@ class Trips:
         self.left = count
         self.out = []
         self.unit = Picture(by_01)
-        self.codes = [code for code in LENGTHS if code != TEST_BRAKES or not by_01]
+        self.codes = [code for code in LENGTHS if code not in (TEST_BRAKES, AREA_EVENT) or not by_01]
         self.decks = {}
         self.disturbing = 0.05
         self.fresh_driver()
@@ -497,6 +532,9 @@ class Trips:
 
     def stop_passed(self, kind):
         return self.send(STOP_PASSED, bytes([kind]))
+
+    def area_event(self, event, speed=0):
+        return self.send(AREA_EVENT, struct.pack(">BH", event, speed))
 
     def odometer(self, v=None, moved=None, measured=None, drop=None, press=0, half=None):
         """One report; what is not given goes on as it was."""
@@ -607,6 +645,10 @@ class Trips:
 
     def out_of_range(self):
         """A command with one operand out of range."""
+        if not self.unit.by_01 and self.chance(0.2):
+            return AREA_EVENT, struct.pack(">BH", *self.deal("event range", (
+                (7, 0), (255, 0), (GMD, 9), (GMD, 301), (GMD, 0), (SIGNAL, 1), (HT_DELETED, 10), (NO_OVERLAP, 130),
+                (TO_NON_EQUIPPED, 300), (TO_HT, 256), (TO_FULLY_EQUIPPED, 65535))))
         return self.deal("range", (
             (STATE, bytes([5])), (STATE, bytes([255])),
             (ODOMETER, struct.pack(">HHhhB", 10001, 0, 0, 1000, 0)),
@@ -639,6 +681,9 @@ class Trips:
             choices += [(STATE, bytes([DA]))] * 3
         if not self.unit.by_01 and (state != DE or self.unit.test is not None):
             choices += [(TEST_BRAKES, b"")] * 3
+        if not self.unit.by_01:
+            choices += 2 * [(AREA_EVENT, struct.pack(">BH", event, 90 if event == GMD else 0)) for event in TAKEN_FROM
+                            if state not in (HS, DA) or self.unit.area not in TAKEN_FROM[event]]
         code, operands = self.pick(*choices)
         self.emit(code, number, operands)
 
@@ -1329,6 +1374,73 @@ class Trips:
         self.thin_out([n for n, (_, ground) in unit.sections.items() if ground is None],
                       self.end_section)
 
+    # -- the areas of the track, in HS and DA
+
+    def an_event(self, event):
+        speed = self.pick(10, 70, 130, 300, self.spread(10, 300), min(300, self.unit.train["speed"] + 1)) if event == GMD else 0
+        return self.area_event(event, speed)
+
+    def some_events(self):
+        """Events of all kinds, most of them taken in the area that stands."""
+        unit = self.unit
+        for _ in range(self.between(1, 3)):
+            event = self.deal("event", TAKEN_FROM)
+            if unit.area not in TAKEN_FROM[event] and self.chance(0.7):
+                self.an_event(self.pick(*(e for e in TAKEN_FROM if unit.area in TAKEN_FROM[e])))
+            self.an_event(event)
+            if self.chance(0.5):
+                self.odometer(moved=self.pick(None, 0, 1200))
+
+    def areas(self):
+        """Events, and speeds at what they leave of VMAX."""
+        self.some_events()
+        limit = self.unit.vmax
+        self.odometer(v=self.pick(below(limit + 10), at(limit + 10), below(limit + 5), upto(limit)))
+        self.some_events()
+        self.odometer()
+
+    def gmd_over_sections(self):
+        """Sections, one of them ending, that an entering GMD deletes, or one inside does not."""
+        unit = self.unit
+        self.odometer(v=self.between(0, 270))
+        for _ in range(self.between(1, 3)):
+            self.section(self.any_id(unit.sections), self.spread(10, 300))
+        standing = [n for n, (_, ground) in unit.sections.items() if ground is None]
+        if self.chance(0.6):
+            self.end_section(self.pick(*standing))
+        if unit.area != NON_EQUIPPED and self.chance(0.8):
+            self.area_event(TO_NON_EQUIPPED)
+        held = list(unit.sections)
+        self.an_event(GMD)
+        self.odometer(moved=self.pick(0, 100))
+        if self.chance(0.5):
+            self.end_section(self.pick(*held))
+
+    def group_without_overlap(self):
+        """Up to 50 m from a group without overlap, or to what ends that."""
+        unit = self.unit
+        if unit.area != FULLY_EQUIPPED:
+            self.area_event(TO_FULLY_EQUIPPED)
+        end = self.deal("group", ("50 m",) * 6 + ("event", "event", "CS", "start"))
+        v = self.pick(None, 0, at(140), below(140), at(130))
+        self.area_event(NO_OVERLAP)
+        last = self.pick(4999, 4999, 5000, 5001, self.between(4990, 6000))
+        while end == "50 m" and unit.pending is not None:
+            rest = last - unit.pending if unit.pending < last else 1
+            self.odometer(v=v, moved=min(rest, self.pick(1200, 1199, 900)))
+            if self.chance(0.15):
+                self.an_event(self.pick(NO_OVERLAP, NO_OVERLAP, SIGNAL, GMD, TO_FULLY_EQUIPPED))
+        self.odometer(moved=1200)
+        if end == "event":
+            self.an_event(self.pick(HT_DELETED, TO_NON_EQUIPPED, TO_HT))
+        elif end == "CS":
+            self.straight_round()
+        elif end == "start":
+            self.start()
+            self.reach_da()
+        for _ in range(self.pick(0, 4, 5)):
+            self.odometer(moved=1200)
+
     def around(self):
         """DA to CS, HS and back to DA."""
         unit = self.unit
@@ -1395,6 +1507,8 @@ class Trips:
             self.end_curve(self.pick(*unit.curves))
         if self.chance(0.1):
             self.fill_curves()
+        if not unit.by_01 and self.chance(0.4):
+            self.some_events()
         if self.chance(0.25):
             self.state(CS)
             self.odometer()
@@ -1452,6 +1566,9 @@ class Trips:
                 self.failing_service,
                 self.pile, self.pile, self.sensor, self.extremes, self.around, self.around,
                 self.grazing, self.grazing, self.over_550, self.over_550, self.quiet]
+        if not self.unit.by_01:
+            acts += [self.areas, self.areas, self.areas, self.gmd_over_sections, self.gmd_over_sections,
+                     self.group_without_overlap, self.group_without_overlap, self.group_without_overlap]
         names = [act.__name__ for act in acts]
         for _ in range(self.between(4, 14)):
             getattr(self, self.deal("act", names))()
@@ -1501,6 +1618,7 @@ class Trips:
                    lambda: self.emit(STATE, unit.number + 1, bytes([9]))]
         if not unit.by_01:
             choices.append(lambda: self.emit(TEST_BRAKES, unit.number + 1))
+            choices.append(lambda: self.emit(AREA_EVENT, unit.number + 1, struct.pack(">BH", SIGNAL, 0)))
         for _ in range(self.between(1, 4)):
             self.pick(*choices)()
 

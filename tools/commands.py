@@ -60,8 +60,8 @@ class Operand(NamedTuple):
     """An operand. `ranges` has the first and last value of each range; a name in place of a last value is an operand
     that it goes up to. `words` are words for values, `bits` a word for each bit from 0. `default` is what stands where a
     trip doesn't say it (None: it has to be said), or names one of tools/text.py's RULES. An operand that `stands_when`
-    another has one of some values shares its place with those of the other values. `read` shows it in tools/read, which
-    leaves it out at `quiet`."""
+    another before it has one of some values shares its place, and may share its name, with those of the other values.
+    `read` shows it in tools/read, which leaves it out at `quiet`."""
 
     name: str
     told: str
@@ -118,6 +118,7 @@ def figure(number):
 STATES = {"DE": 0, "CS": 1, "HS": 2, "DA": 3, "FA": 4}
 KINDS = {"target": 0, "stop": 1}
 STOPS = {"aimed-at": 0, "unexpected": 1, "landslide": 2}
+EVENTS = {"signal": 0, "GMD": 1, "HT-deleted": 2, "no-overlap": 3, "non-equipped": 4, "HT": 5, "fully-equipped": 6}
 IDENT = Operand("id", "id", 1, ((0, 254),), bare=True, read="{}")
 
 FLAGS = Operand("flags", "flags", 1, ((0, 7),), default=0, bits=("soft-braking", "cylinder", "no-etcs-test"), read="{}", quiet=0)
@@ -210,6 +211,12 @@ COMMANDS = (
     Command(0x31, "proceed signal", "proceed", ()),
     Command(0x32, "balise error", "balise error", ()),
     Command(0x40, "brake test", "brake test", ()),
+    Command(0x50, "area event", "area", (
+        Operand("event", "event", 1, ((0, 6),), words=EVENTS, bare=True, read="{}"),
+        Operand("speed", "speed of a GMD", 2, ((10, 300),), LIMIT, stands_when=("event", (1,)), read="speed {}"),
+        Operand("speed", "speed of another event", 2, ((0, 0),), LIMIT, 0, stands_when=("event", (0, *range(2, 256))),
+                read="speed {}", quiet=0),
+    )),
 )
 
 BY_CODE = {command.code: command for command in COMMANDS}
@@ -237,6 +244,7 @@ ANSWERS = {
     13: "all 16 places are held",
     14: "a brake test is taken in DE only",
     15: "a brake test runs already",
+    16: "the event is not taken in this area",
 }
 
 
@@ -244,19 +252,17 @@ ANSWERS = {
 
 
 class Field(NamedTuple):
-    """A field of the report: its name, its bytes, words for its values or for its bits, and the value that says that
-    there is nothing to tell."""
+    """A field of the report: its name, its bytes, a word for each of its values or of its bits, and the value that says
+    that there is nothing to tell."""
 
     name: str
     bytes: int
-    words: tuple = ()
+    words: dict = {}
     bits: tuple = ()
     empty: Any = None
 
     def text(self, value):
-        if self.words:
-            return self.words[value] if value < len(self.words) else str(value)
-        return str(value)
+        return self.words.get(value, str(value))
 
     def set_bits(self, value):
         """The names of the bits that are set, each with its number."""
@@ -278,20 +284,29 @@ CAUSES = (
     "service brake fault",
 )
 
+AREAS = {7: "non-equipped", 4: "partially equipped", 9: "HT", 8: "fully equipped"}
+
+
+def counted(*words):
+    """Words for the values from 0 on."""
+    return dict(enumerate(words))
+
+
 REPORT = (
-    Field("state", 1, words=tuple(STATES)),
-    Field("order", 1, words=("no order", "SOFT", "FULL", "EMERGENCY"), empty=0),
+    Field("state", 1, words=counted(*STATES)),
+    Field("order", 1, words=counted("no order", "SOFT", "FULL", "EMERGENCY"), empty=0),
     Field("causes", 2, bits=CAUSES, empty=0),
     Field("permitted speed", 2, empty=0),
     Field("VMAX", 2, empty=0),
     Field("shown id", 1, empty=255),
-    Field("interval", 1, words=("none", "A", "Ab", "Bf", "B", "C", "D", "E", "F"), empty=0),
-    Field("bar", 1, words=("no bar", "light grey bar", "yellow bar"), empty=0),
-    Field("mode", 1, words=("normal", "pre-indication", "indication", "warning", "intervention"), empty=0),
+    Field("interval", 1, words=counted("none", "A", "Ab", "Bf", "B", "C", "D", "E", "F"), empty=0),
+    Field("bar", 1, words=counted("no bar", "light grey bar", "yellow bar"), empty=0),
+    Field("mode", 1, words=counted("normal", "pre-indication", "indication", "warning", "intervention"), empty=0),
     Field("messages", 1, bits=("DRIFTBROMSFEL", "NÖDBROMSFEL", "TRYCKGIVARFEL", "brake test runs", "last brake test passed",
                                "last brake test failed"), empty=0),
     Field("release offered", 1, bits=("LOSS", "text"), empty=0),
     Field("next change", 4, empty=0xFFFFFFFF),
+    Field("area", 1, words=AREAS, empty=8),
 )
 
 REPORT_LENGTH = sum(field.bytes for field in REPORT)

@@ -118,7 +118,7 @@ def spans_of(command, words):
             operand, text = bare.pop(0) if bare else None, word
         if operand is None:
             words = [o.name + "=" for o in command.operands if not o.bare] + [b for o in command.operands for b in o.bits]
-            raise Wrong(f"'{word}' is no word of {command.word}" + (f"; there are {said(words)}" if words else ""))
+            raise Wrong(f"'{word}' is no word of {command.word}" + (f"; there are {said(dict.fromkeys(words))}" if words else ""))
         if operand.name in spans:
             raise Wrong(f"{operand.name} is said twice")
         spans[operand.name] = (*span_of(operand, text), text)
@@ -157,7 +157,7 @@ def values_of(command, spans, turn, turns, force):
             values[operand.name] = first + (last - first) * turn // max(turns - 1, 1)
         elif operand.default in RULES:
             values[operand.name] = RULES[operand.default](values)
-        elif operand.default is not None:
+        elif operand.default is not None and operand.stands(values):
             values[operand.name] = operand.default
     standing = command.standing(values)
     missing = [operand.name + ("" if operand.bare else "=") for operand in standing if operand.name not in values]

@@ -46,10 +46,18 @@ def release_text(report):
     return f"release offered by {' and '.join(buttons)}" if buttons else "release not offered"
 
 
+def state_text(report):
+    """'DA', or where the track is not fully equipped 'DA in partially equipped area'"""
+    state = FIELDS["state"].text(report["state"])
+    if report["area"] == FIELDS["area"].empty:
+        return state
+    return f"{state} in {FIELDS['area'].text(report['area'])} area"
+
+
 def report_text(report):
     """All that a report tells; outside DA only what is not empty."""
     in_da = FIELDS["state"].text(report["state"]) == "DA"
-    parts = [FIELDS["state"].text(report["state"])]
+    parts = [state_text(report)]
     if in_da or report["order"] or report["causes"]:
         parts.append(order_text(report))
     if in_da or report["permitted speed"] or report["VMAX"]:

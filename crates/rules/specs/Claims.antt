@@ -10,6 +10,8 @@ use Rattle.wire.specs.declared.form.Form.{Form}
 use Rattle.wire.specs.Form.{refusalOf}
 use Rattle.curve.specs.declared.Curve.{Curve}
 use Rattle.curve.specs.declared.Judged.{Judged}
+use Rattle.areas.specs.declared.Area.{Area}
+use Rattle.areas.specs.declared.LineSpeed.{LineSpeed}
 use Rattle.rules.specs.Numbers.{answerNumber, codeNumber, codeOf}
 use Rattle.rules.specs.Places.{freeSection, endingSection, movedSection}
 use Rattle.rules.specs.Speeds.{vmaxOf, permittedSpeed}
@@ -41,6 +43,7 @@ codes =
     Code.Proceed ∷
     Code.BaliseError ∷
     Code.TestBrakes ∷
+    Code.AreaEvent ∷
     []
 
 -- the commands are those of the table "Codes and whole lengths", and each is told by its code
@@ -76,11 +79,18 @@ SectionEndsAtRear =
 
 -- ---- speeds
 
--- VMAX is the least of its sources: no higher than any, and no lower than what is no higher than all
+-- 02, F-6: "the last GMD speed of this stay, the entering one included, or 130 if none was passed"
+abbrev pub UpToLine : LineSpeed → ℕ → Type 0
+UpToLine LineSpeed.Dark n = n ≤ 130
+UpToLine (LineSpeed.Board speed) n = n ≤ speed
+
+-- VMAX is the least of its sources: no higher than any, and no lower than what is no higher than all. The area is a source in the
+-- partial area only
 pub record UpToSources (train : Train) (track : Track) (n : ℕ) : Type 0 where
   pub speed : n ≤ train .speed
   pub sections : (section : Section) → List·Memᴰ section (track .sections) → section .held ≡ true → n ≤ section .speed
   pub forty : track .forty ≡ true → n ≤ 40
+  pub area : track .stay .area ≡ Area.Partial → UpToLine (track .stay .line) n
 
 abbrev pub VmaxIsLeast : Type 0
 VmaxIsLeast =

@@ -1,4 +1,4 @@
--- What an accepted command does (01, "Commands", "Answers"; 02, F-3).
+-- What an accepted command does (01, "Commands", "Answers"; 02, F-3 and F-6).
 use Prim.Native.Nat.{ℕ, zero, suc}
 use mathlib.Core.Bool.{Bool, true, false, cond}
 use mathlib.Core.List.{List, [], _∷_}
@@ -10,8 +10,8 @@ use Rattle.wire.specs.Form.{reportLength, operandsOf}
 use Rattle.pressure.specs.declared.Feed.{Feed}
 use Rattle.pressure.specs.Report.{freshFeedback}
 use Rattle.rules.specs.Numbers.{codeOf, stateOf}
-use Rattle.rules.specs.Operands.{codeByte, trainOf, readingOf, curveOf, sectionOf}
-use Rattle.rules.specs.Places.{freshTrack, withCurves, withSections, withForty, givenCurve, endedCurve, givenSection, endedSection}
+use Rattle.rules.specs.Operands.{codeByte, trainOf, readingOf, curveOf, sectionOf, eventIn, eventSpeed}
+use Rattle.rules.specs.Places.{freshTrack, clearedTrack, withCurves, withSections, withForty, passedTrack, givenCurve, endedCurve, givenSection, endedSection}
 use Rattle.rules.specs.Releases.{freshBrakes, brakesBy}
 use Rattle.rules.specs.BrakeTest.{freshTest, begunTest, leftTest}
 use Rattle.rules.specs.Odometer.{withState, withTrack, withBrakes, withTest, reportedIn}
@@ -67,10 +67,11 @@ freshStm = freshWith false noTrain
 
 -- ---- state
 
--- "Entering CS drops curves, sections, causes, their counters and the 40 of an unexpected stop, but nothing of the feedback"
+-- "Entering CS drops curves, sections, causes, their counters and the 40 of an unexpected stop, but nothing of the feedback"; 02,
+-- F-6: "CS keeps the area"
 abbrev pub entered : State → Stm → Stm
 entered State.DE stm = withState stm State.DE
-entered State.CS stm = withBrakes (withTrack (withState stm State.CS) freshTrack) freshBrakes
+entered State.CS stm = withBrakes (withTrack (withState stm State.CS) (clearedTrack (stm .track))) freshBrakes
 entered State.HS stm = withState stm State.HS
 entered State.DA stm = withState stm State.DA
 entered State.FA stm = withState stm State.FA
@@ -104,6 +105,8 @@ carriedOut Code.Proceed s stm = withTrack stm (withForty (stm .track) false)
 carriedOut Code.BaliseError s stm = withBrakes stm (brakesBy Code.BaliseError 0 (stm .kept .speed) (stm .brakes))
 -- 02, F-3: "New command 40 (5 bytes) starts the test in DE"
 carriedOut Code.TestBrakes s stm = withTest stm (begunTest (stm .test))
+-- 02, F-6: "A command 50 carries one byte of event"
+carriedOut Code.AreaEvent s stm = withTrack stm (passedTrack (eventIn s) (eventSpeed s) (stm .track))
 
 -- ---- what is remembered of it
 

@@ -8,7 +8,8 @@ use Rattle.rules.specs.declared.State.{State}
 use Rattle.rules.specs.declared.Cause.{Cause}
 use Rattle.rules.specs.declared.Order.{Order}
 
--- "Answers": "0 accepted. 100 again", and the list 1 to 13; 02, F-3: "Errors: 14, test asked outside DE; 15, test already running"
+-- "Answers": "0 accepted. 100 again", and the list 1 to 13; 02, F-3: "Errors: 14, test asked outside DE; 15, test already running";
+-- 02, F-6: "Errors: 16, an event that these rules don't take in this area"
 abbrev pub answerNumber : Answer → ℕ
 answerNumber Answer.Accepted = 0
 answerNumber Answer.Again = 100
@@ -27,6 +28,7 @@ answerNumber Answer.NotHeld = 12
 answerNumber Answer.AllHeld = 13
 answerNumber Answer.OutsideDE = 14
 answerNumber Answer.TestRunning = 15
+answerNumber Answer.NotTaken = 16
 
 -- accepted; accepted or again; refused
 abbrev pub isAccepted : Answer → Bool
@@ -38,7 +40,7 @@ isAnswered answer = isAccepted answer || eqb (answerNumber answer) 100
 abbrev pub isRefused : Answer → Bool
 isRefused answer = not (isAnswered answer)
 
--- "Commands", the column Code; 02, F-3: "New command 40"
+-- "Commands", the column Code; 02, F-3: "New command 40"; 02, F-6: "A command 50"
 abbrev pub codeNumber : Code → ℕ
 codeNumber Code.Start = 0x01
 codeNumber Code.ChangeState = 0x02
@@ -51,6 +53,7 @@ codeNumber Code.StopPassed = 0x30
 codeNumber Code.Proceed = 0x31
 codeNumber Code.BaliseError = 0x32
 codeNumber Code.TestBrakes = 0x40
+codeNumber Code.AreaEvent = 0x50
 
 -- the command of a byte that is a code; refusal 3 has gone before
 unfoldable pub codeOf : ℕ → Code
@@ -64,7 +67,8 @@ codeOf byte =
     (cond (eqb byte 0x23) Code.EndSection
     (cond (eqb byte 0x30) Code.StopPassed
     (cond (eqb byte 0x31) Code.Proceed
-    (cond (eqb byte 0x32) Code.BaliseError Code.TestBrakes)))))))))
+    (cond (eqb byte 0x32) Code.BaliseError
+    (cond (eqb byte 0x40) Code.TestBrakes Code.AreaEvent))))))))))
 
 -- a command is this one
 abbrev pub isCode : Code → Code → Bool

@@ -11,6 +11,8 @@ use Rattle.curve.specs.declared.Kind.{Kind}
 use Rattle.curve.specs.declared.Gradient.{Gradient}
 use Rattle.curve.specs.declared.Curve.{Curve}
 use Rattle.curve.specs.Deceleration.{gradientFrom}
+use Rattle.areas.specs.declared.Event.{Event}
+use Rattle.areas.specs.Numbers.{eventOf, isEvent}
 use Rattle.rules.specs.declared.Code.{Code}
 use Rattle.rules.specs.declared.Train.{Train}
 use Rattle.rules.specs.declared.Section.{Section}
@@ -162,6 +164,23 @@ sectionOf s = record { held = true; id = byteAt s 0; speed = twoAt s 1; ending =
 unfoldable pub sectionInRange : Section → Bool
 sectionInRange section = leb (section .id) 254 && within 10 300 (section .speed)
 
+-- ---- 50 area event (02, F-6)
+
+-- "one byte of event"; "After the event the command (8 bytes) carries a two-byte speed"
+abbrev pub eventIn : List ℕ → Event
+eventIn s = eventOf (byteAt s 0)
+
+abbrev pub eventSpeed : List ℕ → ℕ
+eventSpeed s = twoAt s 1
+
+-- "10–300 for GMD, otherwise 0"
+abbrev pub eventSpeedInRange : Event → ℕ → Bool
+eventSpeedInRange event speed = cond (isEvent Event.GMD event) (within 10 300 speed) (eqb speed 0)
+
+-- "0 .., 1 .., 2 .., 3 .., 4 to 6 ..", and the speed
+unfoldable pub eventInRange : List ℕ → Bool
+eventInRange s = leb (byteAt s 0) 6 && eventSpeedInRange (eventIn s) (eventSpeed s)
+
 -- ---- all commands
 
 -- refusal 9 asks it: every operand is in its range
@@ -177,3 +196,4 @@ inRange Code.StopPassed s = leb (byteAt s 0) 2
 inRange Code.Proceed s = true
 inRange Code.BaliseError s = true
 inRange Code.TestBrakes s = true
+inRange Code.AreaEvent s = eventInRange s

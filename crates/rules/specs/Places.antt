@@ -1,4 +1,4 @@
--- The places of curves and sections (01, "Answers", refusals 12 and 13 and what follows them; "Curves").
+-- The places of curves and sections, and the whole track (01, "Answers", refusals 12 and 13 and what follows them; "Curves"; 02, F-6).
 use Prim.Native.Nat.{ℕ, _+_, _*_}
 use mathlib.Core.Bool.{Bool, true, false, cond, not, _&&_, _||_}
 use mathlib.Core.List.{List, [], _∷_, map}
@@ -8,6 +8,9 @@ use Rattle.curve.specs.declared.Kind.{Kind}
 use Rattle.curve.specs.declared.Direction.{Direction}
 use Rattle.curve.specs.declared.Curve.{Curve}
 use Rattle.places.specs.Places.{places, movedAll}
+use Rattle.areas.specs.declared.Event.{Event}
+use Rattle.areas.specs.declared.Stay.{Stay}
+use Rattle.areas.specs.Stays.{freshStay, clearedStay, passedStay, deletesSections, coveredStay}
 use Rattle.rules.specs.declared.Section.{Section}
 use Rattle.rules.specs.declared.Track.{Track}
 
@@ -40,9 +43,21 @@ freeCurve = record {
 abbrev pub freeSection : Section
 freeSection = record { held = false; id = 0; speed = 0; ending = false; ground = 0 }
 
--- no curve, no section, no 40
+-- no section at any place
+abbrev pub noSections : List Section
+noSections = replicate places freeSection
+
+-- no curve, no section, no 40, in this stay
+unfoldable pub emptyTrack : Stay → Track
+emptyTrack stay = record { curves = replicate places freeCurve; sections = noSections; forty = false; stay = stay }
+
+-- after a start
 unfoldable pub freshTrack : Track
-freshTrack = record { curves = replicate places freeCurve; sections = replicate places freeSection; forty = false }
+freshTrack = emptyTrack freshStay
+
+-- after CS is entered; 02, F-6: "CS, ends a pending 50 m; CS keeps the area"
+unfoldable pub clearedTrack : Track → Track
+clearedTrack track = emptyTrack (clearedStay (track .stay))
 
 -- ---- curves
 
@@ -127,18 +142,28 @@ movedSection length moved section =
 -- ---- the whole track
 
 abbrev pub withCurves : Track → List Curve → Track
-withCurves track curves = record { curves = curves; sections = track .sections; forty = track .forty }
+withCurves track curves = record { curves = curves; sections = track .sections; forty = track .forty; stay = track .stay }
 
 abbrev pub withSections : Track → List Section → Track
-withSections track sections = record { curves = track .curves; sections = sections; forty = track .forty }
+withSections track sections = record { curves = track .curves; sections = sections; forty = track .forty; stay = track .stay }
 
 abbrev pub withForty : Track → Bool → Track
-withForty track forty = record { curves = track .curves; sections = track .sections; forty = forty }
+withForty track forty = record { curves = track .curves; sections = track .sections; forty = forty; stay = track .stay }
 
--- ground moved: "d falls by the ground moved", and the ground of every ending section grows by it
+-- 02, F-6: an event, with the command's speed; "An entering GMD deletes the sections"
+unfoldable pub passedTrack : Event → ℕ → Track → Track
+passedTrack event speed track = record {
+  curves = track .curves;
+  sections = cond (deletesSections event (track .stay)) noSections (track .sections);
+  forty = track .forty;
+  stay = passedStay event speed (track .stay);
+}
+
+-- ground moved: "d falls by the ground moved", the ground of every ending section grows by it, and so does that of a pending 50 m
 unfoldable pub movedTrack : ℕ → ℕ → Track → Track
 movedTrack length moved track = record {
   curves = movedAll moved (track .curves);
   sections = map (movedSection length moved) (track .sections);
   forty = track .forty;
+  stay = coveredStay moved (track .stay);
 }

@@ -1,4 +1,4 @@
--- The refusals (01, "Answers": "Checked in this order"; 02, F-3).
+-- The refusals (01, "Answers": "Checked in this order"; 02, F-3 and F-6).
 use Prim.Native.Nat.{ℕ, _+_}
 use mathlib.Core.Bool.{Bool, true, cond, not, _&&_, _||_}
 use mathlib.Core.List.{List, [], _∷_}
@@ -9,8 +9,9 @@ use Rattle.wire.specs.Bytes.{sameBytes}
 use Rattle.wire.specs.declared.form.Form.{Form}
 use Rattle.wire.specs.Form.{formOf, operandsOf}
 use Rattle.pressure.specs.Phases.{isSet}
+use Rattle.areas.specs.Rows.{isTaken}
 use Rattle.rules.specs.Numbers.{isCode, isState, codeOf, stateOf}
-use Rattle.rules.specs.Operands.{codeByte, numberOf, inRange}
+use Rattle.rules.specs.Operands.{codeByte, numberOf, eventIn, inRange}
 use Rattle.rules.specs.Places.{holdsCurve, allCurvesHeld, holdsSection, standsSection, allSectionsHeld}
 use Rattle.rules.specs.BrakeTest.{isRunning}
 use Rattle.rules.specs.Commands.{padded}
@@ -55,6 +56,8 @@ isAllowed state Code.Proceed s = isState State.HS state || isState State.DA stat
 isAllowed state Code.BaliseError s = isState State.DA state
 -- 02, F-3: outside DE it is 14
 isAllowed state Code.TestBrakes s = true
+-- 02, F-6: "It wants HS or DA."
+isAllowed state Code.AreaEvent s = isState State.HS state || isState State.DA state
 
 -- "DA is ordered"
 abbrev pub ordersDA : Code → List ℕ → Bool
@@ -81,6 +84,10 @@ testsOutside stm code = isCode Code.TestBrakes code && not (isState State.DE (st
 unfoldable pub testsTwice : Stm → Code → Bool
 testsTwice stm code = isCode Code.TestBrakes code && isRunning (stm .test .stage)
 
+-- 02, F-6: "16, an event that these rules don't take in this area"
+unfoldable pub isUntaken : Stm → Code → List ℕ → Bool
+isUntaken stm code s = isCode Code.AreaEvent code && not (isTaken (stm .track .stay .area) (eventIn s))
+
 -- ---- the list
 
 -- an answer, and when it is given
@@ -96,7 +103,8 @@ abbrev pub firstOf : List Rule → Answer
 firstOf [] = Answer.Accepted
 firstOf (r ∷ rs) = cond (r .applies) (r .answer) (firstOf rs)
 
--- 5 to 8; "This is the answer once 1–8 are passed"; 9 to 13; 02, F-3: 14 and 15, "both after 10"
+-- 5 to 8; "This is the answer once 1–8 are passed"; 9 to 13; 02, F-3: 14 and 15, "both after 10"; 02, F-6: 16, "after
+-- 10"
 unfoldable pub rulesFor : Stm → List ℕ → Code → List ℕ → List Rule
 rulesFor stm command code s =
     rule (not (stm .control .started) && not (isStart command)) Answer.NotStarted
@@ -111,6 +119,7 @@ rulesFor stm command code s =
     ∷ rule (findsNoPlace stm code s) Answer.AllHeld
     ∷ rule (testsOutside stm code) Answer.OutsideDE
     ∷ rule (testsTwice stm code) Answer.TestRunning
+    ∷ rule (isUntaken stm code s) Answer.NotTaken
     ∷ []
 
 -- the answer to a command that passes 1 to 4

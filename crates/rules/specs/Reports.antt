@@ -1,4 +1,4 @@
--- The report (01, "Report"; 02, F-1, F-3 and F-4).
+-- The report (01, "Report"; 02, F-1, F-3, F-4 and F-6).
 use Prim.Native.Nat.{ℕ, _+_, _^_}
 use mathlib.Core.Bool.{Bool, true, false, cond, not, _&&_}
 use mathlib.Core.List.{List, [], _∷_, _++_, map, foldr}
@@ -10,6 +10,7 @@ use Rattle.curve.specs.Ground.{never}
 use Rattle.interval.specs.Changes.{toChange}
 use Rattle.colours.specs.Numbers.{showingNumber, barNumber, modeNumber}
 use Rattle.colours.specs.Rows.{rowOf}
+use Rattle.areas.specs.Numbers.{areaNumber}
 use Rattle.rules.specs.Numbers.{stateNumber, orderNumber, bitNumber}
 use Rattle.rules.specs.Places.{anyOf}
 use Rattle.rules.specs.Speeds.{brakingOf, judgedNow, vmaxOf, permittedSpeed}
@@ -79,14 +80,14 @@ changeOf train kept shown =
 abbrev pub two : ℕ → List ℕ → List ℕ
 two x rest = highByte x ∷ lowByte x ∷ rest
 
--- "four bytes at its end"
+-- "four bytes"
 abbrev pub four : ℕ → List ℕ → List ℕ
 four x rest = two (highPair x) (two (lowPair x) rest)
 
--- the report's fields in their order
-abbrev pub fields : ℕ → ℕ → ℕ → ℕ → ℕ → List ℕ → ℕ → ℕ → ℕ → List ℕ
-fields state order cause permitted vmax shown messages offered change =
-    state ∷ order ∷ two cause (two permitted (two vmax (shown ++ (messages ∷ offered ∷ four change []))))
+-- the report's fields in their order; 02, F-6: "a last byte with the area in every state"
+abbrev pub fields : ℕ → ℕ → ℕ → ℕ → ℕ → List ℕ → ℕ → ℕ → ℕ → ℕ → List ℕ
+fields state order cause permitted vmax shown messages offered change area =
+    state ∷ order ∷ two cause (two permitted (two vmax (shown ++ (messages ∷ offered ∷ four change (area ∷ [])))))
 
 -- in DA, by what the curves say and VMAX
 unfoldable pub reportWith : List Judged → ℕ → Candidate → Seen → Stm → List ℕ
@@ -97,6 +98,7 @@ reportWith judged vmax shown seen stm =
     (messagesOf (stm .brakes) (stm .feedback) (stm .test))
     (offeredOf seen (stm .brakes .causes))
     (changeOf (stm .train) (stm .kept) shown)
+    (areaNumber (stm .track .stay .area))
 
 unfoldable pub reportInDA : Stm → List ℕ
 reportInDA stm =
@@ -107,6 +109,7 @@ reportInDA stm =
 unfoldable pub reportOutside : State → ℕ → Stm → List ℕ
 reportOutside state order stm =
     fields (stateNumber state) order 0 0 0 (255 ∷ 0 ∷ 0 ∷ 0 ∷ []) (messagesOf (stm .brakes) (stm .feedback) (stm .test)) 0 never
+    (areaNumber (stm .track .stay .area))
 
 -- 02, F-3: "the report shows order 2 in DE while the test brakes"
 abbrev pub testOrder : Stage → ℕ

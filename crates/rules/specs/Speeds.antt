@@ -1,4 +1,4 @@
--- What the train brings to the curves, VMAX and the permitted speed (01, "Curves").
+-- What the train brings to the curves, VMAX and the permitted speed (01, "Curves"; 02, F-6).
 use Prim.Native.Nat.{ℕ, min}
 use mathlib.Core.Bool.{Bool, cond}
 use mathlib.Core.List.{List, _∷_, map, foldr}
@@ -8,6 +8,7 @@ use Rattle.curve.specs.declared.Judged.{Judged}
 use Rattle.curve.specs.Deceleration.{levelOf}
 use Rattle.curve.specs.Lead.{leadsOf}
 use Rattle.places.specs.Places.{judgedAll, leastPermitted}
+use Rattle.areas.specs.Stays.{areaSpeed}
 use Rattle.rules.specs.declared.Train.{Train}
 use Rattle.rules.specs.declared.Section.{Section}
 use Rattle.rules.specs.declared.Track.{Track}
@@ -33,10 +34,13 @@ sectionSpeed speed section = cond (section .held) (section .speed) speed
 abbrev pub stopSpeed : ℕ → Bool → ℕ
 stopSpeed speed forty = cond forty 40 speed
 
--- "VMAX is the least of train speed, sections .. and 40 after an unexpected stop"
+-- "VMAX is the least of train speed, sections .. and 40 after an unexpected stop"; 02, F-6: "In the partial area VMAX also takes .."
 unfoldable pub vmaxOf : Train → Track → ℕ
 vmaxOf train track =
-    foldr min (train .speed) (stopSpeed (train .speed) (track .forty) ∷ map (sectionSpeed (train .speed)) (track .sections))
+    foldr min (train .speed)
+    (areaSpeed (train .speed) (track .stay)
+    ∷ stopSpeed (train .speed) (track .forty)
+    ∷ map (sectionSpeed (train .speed)) (track .sections))
 
 -- "Permitted speed is the least of VMAX and the curves'"
 unfoldable pub permittedSpeed : ℕ → List Judged → ℕ

@@ -6,7 +6,7 @@
 
 // ---- answers and codes
 
-// The answers (01, "Answers"; 02, F-3): accepted, again, and the refusals 1 to 15 in their order.
+// The answers (01, "Answers"; 02, F-3 and F-6): accepted, again, and the refusals 1 to 16 in their order.
 pub enum Answer {
     Accepted,
     Again,
@@ -25,9 +25,10 @@ pub enum Answer {
     AllHeld,
     OutsideDE,
     TestRunning,
+    NotTaken,
 }
 
-// The commands (01, "Commands"; 02, F-3), in the order of their codes.
+// The commands (01, "Commands"; 02, F-3 and F-6), in the order of their codes.
 pub enum Code {
     Start,
     ChangeState,
@@ -40,6 +41,7 @@ pub enum Code {
     Proceed,
     BaliseError,
     TestBrakes,
+    AreaEvent,
 }
 
 // ---- the state
@@ -85,11 +87,13 @@ pub struct Section {
     pub ground: u32,
 }
 
-// What the track has told: curves, sections, and the 40 of an unexpected stop.
+// What the track has told: curves, sections, the 40 of an unexpected stop, and the stay in an area
+// (02, F-6).
 pub struct Track {
     pub curves: [curve::Curve; places::PLACES],
     pub sections: [Section; places::PLACES],
     pub forty: bool,
+    pub stay: areas::Stay,
 }
 
 // The causes, in the order of their bits 0 to 11.

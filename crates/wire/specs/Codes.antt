@@ -33,6 +33,8 @@ commands =
     row 0x32 5 ∷
     -- 02, F-3: "New command 40 (5 bytes)"
     row 0x40 5 ∷
+    -- 02, F-6: "A command 50 .. (8 bytes)"
+    row 0x50 8 ∷
     []
 
 -- the length in the first of the rows that has the code

@@ -10,9 +10,9 @@ use Rattle.wire.specs.declared.form.Form.{Form}
 use Rattle.wire.specs.Codes.{lengthOf}
 use Rattle.wire.specs.Numbers.{byteAt}
 
--- 01, refusal 1: "The report area isn't 14 bytes."; 02, F-1: "Refusal 1 then wants 18 bytes."
+-- 01, refusal 1: "The report area isn't 14 bytes."; 02, F-1: "Refusal 1 then wants 18 bytes."; 02, F-6: "one more for refusal 1"
 abbrev pub reportLength : ℕ
-reportLength = 18
+reportLength = 19
 
 -- 01, refusals 3 and 4, "The first byte is no code. The length isn't the code's.": by the length that the table gives the
 -- first byte, and the number of bytes n

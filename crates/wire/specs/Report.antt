@@ -1,4 +1,4 @@
--- The fields of a report, read from its bytes (01, "Report"; 02, F-1).
+-- The fields of a report, read from its bytes (01, "Report"; 02, F-1 and F-6).
 use Prim.Native.Nat.{ℕ}
 use mathlib.Core.List.{List}
 use lib.ListN.{drop}
@@ -37,6 +37,10 @@ messagesIn report = byteAt report 12
 abbrev pub offeredIn : List ℕ → ℕ
 offeredIn report = byteAt report 13
 
--- 02, F-1: "four bytes at its end"
+-- 02, F-1: "four bytes"
 abbrev pub changeIn : List ℕ → ℕ
 changeIn report = number 4 (drop 14 report)
+
+-- 02, F-6: "a last byte with the area"
+abbrev pub areaIn : List ℕ → ℕ
+areaIn report = byteAt report 18

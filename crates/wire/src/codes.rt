@@ -9,7 +9,7 @@ pub struct Row {
 }
 
 // How many codes there are.
-pub const CODES: usize = 11;
+pub const CODES: usize = 12;
 
 // The bytes of the shortest command, a code and a number.
 pub const SHORTEST: usize = 5;
@@ -61,6 +61,10 @@ pub const COMMANDS: [Row; CODES] = [
     Row {
         code: 0x40,
         length: 5,
+    },
+    Row {
+        code: 0x50,
+        length: 8,
     },
 ];
 

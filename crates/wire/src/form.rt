@@ -5,7 +5,7 @@ use crate::codes::Length;
 use crate::codes::length_of;
 
 // The length of the report area, in bytes.
-pub const REPORT_LENGTH: usize = 18;
+pub const REPORT_LENGTH: usize = 19;
 
 // The refusal that a command gets by its form, and `Whole` where it gets none of the four.
 pub enum Form {
