@@ -243,7 +243,8 @@ def claims():
         f"{words} keeps {kind}" for words in KEEPING for kind in ("a standing section", "an ending section")] + [
         "area 8 in DE"] + [f"area {area} in {name}" for area in AREAS for name in STATES[1:]] + [
         f"area {area} kept from {way}" for area in AREAS for way in ("HS to DA", "DA to CS", "HS to CS", "CS to HS", "DA to FA")] + [
-        f"a start from area {area}" for area in AREAS] + ["FA by the emergency check in area 4"]
+        f"a start from area {area}" for area in AREAS] + [
+        "FA by the emergency check in area 4", "FA at the report of the 50 m"]
     yield "Figures", [
         "VMAX 100: 3,055 no order", "VMAX 100: 3,056 bit 0", "VMAX 100: 2,916 offered", "VMAX 100: 2,917 not offered",
         "P_FULL 380: 956 kPa gives 500 and the message", "full 700: 490 measured frees bit 6", "full 700: 489 doesn't"]
@@ -313,12 +314,23 @@ class Track:
     def enter(self, area, by):
         if self.area == 4 and self.gmds:
             self.earlier, self.earlier_in_cs = True, self.in_cs
+        self.ended = None
         self.end_group(by)
         self.area, self.by, self.gmds, self.in_cs = area, by, [], False
 
     def end_group(self, by):
-        self.ended = (by, self.ground) if self.group is not None and by != "the 50 m" else None
+        if self.group is not None and by != "the 50 m":
+            self.ended = by, self.ground
         self.group = None
+
+    def comes_between(self, words):
+        """Something that leaves the ground from a group on as it is."""
+        if self.group is not None:
+            self.between.add(words)
+
+    def has_sixteen_others(self):
+        """All places are held by sections that came after sixteen deleted ones."""
+        return len(self.deleted) == len(set(self.sections) - set(self.deleted)) == 16
 
     def passes(self, event, speed):
         """An event that is taken."""
@@ -326,7 +338,7 @@ class Track:
             self.group, self.between, self.states = [], set(), set()
             self.anew, self.ended = self.ended is not None, None
         elif event == NO_OVERLAP:
-            self.between.add("a second group")
+            self.comes_between("a second group")
         elif not (event == GMD and self.area == 4):
             if event == GMD:
                 self.deleted = {ident: ground is not None for ident, (_, ground) in self.sections.items()}
@@ -401,7 +413,7 @@ class Coverage:
         self.refusals(code, number, operands, state, again, answer)
         self.operands(code, operands, state, answer)
         if code == 0x50 and answer in (0, 16):
-            self.see(f"event {operands[0]} in area {self.track.area}, {STATES[state]}: {answer}")
+            self.event_answered(operands[0], state, answer)
         if answer == 0:
             self.see(f"{code:02X} accepted")
             before = self.picture()
@@ -848,8 +860,13 @@ class Coverage:
 
     # -- F-6: the area is kept here, with all that it goes by
 
+    def event_answered(self, event, state, answer):
+        track = self.track
+        if state in (HS, DA) and answer == (16 if AREAS[track.area][event] is None else 0):
+            self.see(f"event {event} in area {track.area}, {STATES[state]}: {answer}")
+
     def on_track(self, code, operands, before, report):
-        was = self.track and (self.track.area, self.track.by, self.track.ground)
+        was = None if self.track is None else self.track.area
         if code == 0x01:
             self.track_started()
         elif code == 0x02:
@@ -858,30 +875,33 @@ class Coverage:
             self.track_moved(before, *struct.unpack(">HH", operands[:4]), report)
         elif code == 0x50:
             self.track_passed(*struct.unpack(">BH", operands), before, report)
-        elif code == 0x22:
-            self.track.sections[operands[0]] = struct.unpack(">H", operands[1:])[0], None
-            new = set(self.track.sections) - set(self.track.deleted)
-            self.see("sixteen sections after sixteen deleted", len(new) == 16 == len(self.track.deleted))
-        elif code == 0x23:
-            self.track.sections[operands[0]] = self.track.sections[operands[0]][0], 0
-        if self.track.group is not None and code in (0x20, 0x21, 0x22, 0x23, 0x31):
-            self.track.between.add("a curve, a section and a proceed signal")
-        if self.track.group is not None and code in (0x30, 0x32):
-            self.track.between.add("a stop and a balise error")
-        self.at_50_m = was is not None and (was[0], self.track.area, self.track.by) == (8, 4, "the 50 m") and code == 0x10
+        else:
+            self.track_told(code, operands)
+        self.at_50_m = code == 0x10 and (was, self.track.area) == (8, 4)
         self.expect(report[18] == self.track.area, "the area is the one that was entered last")
-        self.see(f"area {report[18]} in {STATES[report[0]]}")
+        if report[18] == self.track.area:
+            self.see(f"area {report[18]} in {STATES[report[0]]}")
         if report[0] == DA:
             self.track_vmax(report)
 
     def track_started(self):
-        old = self.track
+        old, ended = self.track, None
         if old is not None:
             self.see(f"a start from area {old.area}")
-            old.end_group("a start") if old.group is not None else None
-        self.track = Track(100 * self.unit.train["length"], old.ended if old and old.ended and old.ended[0] == "a start" else None)
+            ended = None if old.group is None else ("a start", old.ground)
+        self.track = Track(100 * self.unit.train["length"], ended)
         self.from_4 = old is not None and old.area == 4
         self.lowered = False
+
+    def track_told(self, code, operands):
+        """Commands 20 to 40."""
+        track = self.track
+        if code == 0x22:
+            track.sections[operands[0]] = struct.unpack(">H", operands[1:])[0], None
+            self.see("sixteen sections after sixteen deleted", track.has_sixteen_others())
+        elif code == 0x23:
+            track.sections[operands[0]] = track.sections[operands[0]][0], 0
+        track.comes_between("a stop and a balise error" if code in (0x30, 0x32) else "a curve, a section and a proceed signal")
 
     def track_entered(self, state, to):
         track = self.track
@@ -889,8 +909,7 @@ class Coverage:
             self.see(f"area {track.area} kept from {STATES[state]} to {STATES[to]}")
         self.see("FA while the 50 m pend", to == FA and track.group is not None)
         if to == CS:
-            if track.group is not None:
-                track.end_group("CS")
+            track.end_group("CS")
             track.in_cs, track.sections = True, {}
 
     def track_moved(self, before, v, moved, report):
@@ -922,6 +941,7 @@ class Coverage:
                 self.see(f"over 50 m in {STATES[before]} before the group, then 4,999 cm: area 8", far > 5000)
         if report[18] == 4:
             self.see("the 50 m over HS and DA", track.states == {HS, DA})
+            self.see("FA at the report of the 50 m", report[0] == FA)
             for words in track.between:
                 self.see(f"the 50 m with {words} in between", ground == 5000)
             self.track_kept("the 50 m", report)
@@ -946,8 +966,8 @@ class Coverage:
         track.ended = by, ground + moved
         if ground + moved > 5000:
             self.see("over 50 m from the group, ended by CS, in CS", by == "CS" and state == CS and report[18] == 8)
-            if state in (HS, DA) and (by == "CS" or by == "a start" or by == track.by):
-                self.see(f"over 50 m from the group, ended by {by}: area {report[18]}")
+            if state in (HS, DA) and by in ("CS", "a start", track.by) and report[18] == track.area:
+                self.see(f"over 50 m from the group, ended by {by}: area {track.area}")
             self.see("over 50 m from the group, ended by event 2: the GMD's speed stands",
                      by == "event 2" and report[0] == DA and track.gmds and report[6:8] == struct.pack(">H", track.gmds[-1]))
 
@@ -1027,21 +1047,20 @@ class Coverage:
     def repeated_on_track(self, code, operands):
         self.see("event 3 again", code == 0x50 and operands[0] == NO_OVERLAP)
         self.see("the report of the 50 m again", code == 0x10 and self.at_50_m)
-        if self.track.group is not None:
-            self.track.between |= {"a repeated report"} if code == 0x10 else {"an event 3 again"} if code == 0x50 else set()
+        if code in (0x10, 0x50):
+            self.track.comes_between("a repeated report" if code == 0x10 else "an event 3 again")
 
     def refused_on_track(self, code, operands, answer):
         track = self.track
         if track is None:
             return
-        if track.group is not None:
-            self.track.between |= {"a refused report"} if code == 0x10 else set()
-            if code == 0x50 and answer in (9, 16):
-                track.between.add(f"an event refused {answer}")
+        if code == 0x10:
+            track.comes_between("a refused report")
+        if code == 0x50 and answer in (9, 16):
+            track.comes_between(f"an event refused {answer}")
         if code == 0x23 and answer == 12 and operands[0] in track.deleted:
             self.see("12 of a deleted section that was ending" if track.deleted[operands[0]] else "12 of a deleted section")
-        new = set(track.sections) - set(track.deleted)
-        self.see("13 after those", code == 0x22 and answer == 13 and len(new) == 16 == len(track.deleted))
+        self.see("13 after those", code == 0x22 and answer == 13 and track.has_sixteen_others())
 
     # -- F-2: an error is kept here with its speed, and with the number of reports in DA since
 

@@ -24,6 +24,17 @@ def state(number, to):
     return numbered(bytes.fromhex("02 00000000") + bytes([to]), number)
 
 
+def settled():
+    """A start and reports at a stand until there is a reference pressure: numbers 1 to 32."""
+    standing = bytes.fromhex("10 00000000 0000 0000 0000 03E8 00")
+    return START + b"".join(numbered(standing, number) for number in range(2, 33))
+
+
+def event(number, which, speed=0):
+    """Command 50."""
+    return numbered(bytes.fromhex("50 00000000") + bytes([which]) + speed.to_bytes(2, "big"), number)
+
+
 def changes(first, count):
     """A start and changes of state, each of which gets a line, between CS and HS: as many lines as asked for."""
     return numbered(START, first) + b"".join(state(first + i, 1 if i % 2 else 2 if i else 1) for i in range(1, count))
@@ -50,6 +61,10 @@ CASES = [
     changes(1, 50),
     changes(1, 98),
     changes(1, 99),
+    # Area events in DA: a line for 130, for a GMD's 90 and for fully equipped, none for the same 90, a group or a refused event.
+    settled() + state(33, 3) + event(34, 2) + event(35, 1, 90) + event(36, 1, 90) + event(37, 2) + event(37, 6) + event(38, 3),
+    # In HS none.
+    START + state(2, 1) + state(3, 2) + event(4, 4) + event(5, 1, 90) + event(6, 6),
 ]
 
 if __name__ == "__main__":

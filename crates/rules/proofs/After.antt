@@ -204,6 +204,7 @@ train-kept Code.StopPassed s stm e = refl
 train-kept Code.Proceed s stm e = refl
 train-kept Code.BaliseError s stm e = refl
 train-kept Code.TestBrakes s stm e = refl
+train-kept Code.AreaEvent s stm e = refl
 
 -- the test and the extra after a command
 abbrev pub testBy : Code → List ℕ → Stm → BrakeTest
@@ -218,6 +219,7 @@ testBy Code.StopPassed s stm = stm .test
 testBy Code.Proceed s stm = stm .test
 testBy Code.BaliseError s stm = stm .test
 testBy Code.TestBrakes s stm = begunTest (stm .test)
+testBy Code.AreaEvent s stm = stm .test
 
 pub test-by : (code : Code) (s : List ℕ) (stm : Stm) → carriedOut code s stm .test ≡ testBy code s stm
 unfolding freshWith stopped
@@ -232,6 +234,7 @@ test-by Code.StopPassed s stm = refl
 test-by Code.Proceed s stm = refl
 test-by Code.BaliseError s stm = refl
 test-by Code.TestBrakes s stm = refl
+test-by Code.AreaEvent s stm = refl
 
 abbrev pub extraBy : Code → List ℕ → Stm → ℕ
 extraBy Code.Start s stm = trainOf s .times .extra
@@ -245,6 +248,7 @@ extraBy Code.StopPassed s stm = stm .train .times .extra
 extraBy Code.Proceed s stm = stm .train .times .extra
 extraBy Code.BaliseError s stm = stm .train .times .extra
 extraBy Code.TestBrakes s stm = stm .train .times .extra
+extraBy Code.AreaEvent s stm = stm .train .times .extra
 
 pub extra-by : (code : Code) (s : List ℕ) (stm : Stm) → carriedOut code s stm .train .times .extra ≡ extraBy code s stm
 unfolding freshWith stopped
@@ -266,6 +270,7 @@ extra-by Code.StopPassed s stm = refl
 extra-by Code.Proceed s stm = refl
 extra-by Code.BaliseError s stm = refl
 extra-by Code.TestBrakes s stm = refl
+extra-by Code.AreaEvent s stm = refl
 
 -- entering a state other than CS leaves the track
 pub track-entered : (state : State) (stm : Stm) → isState State.CS state ≡ false → entered state stm .track ≡ stm .track

@@ -44,7 +44,7 @@ module _ (stm : Stm) (x : Sent) (e : isAccepted (answerTo stm x) ≡ true) (d : 
   pub figure-divided : changeIn (momentOf stm x .area) ≡ dividedOf (after .train) (after .kept) (shown after)
   figure-divided =
       ap changeIn (written-is stm x e ∙ in-da after d)
-      ∙ four-read (changeOf (after .train) (after .kept) (shown after)) []
+      ∙ four-read (changeOf (after .train) (after .kept) (shown after)) _
       ∙ divided (after .train) (after .kept) (shown after)
 
 -- ---- the figures

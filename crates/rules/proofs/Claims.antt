@@ -6,7 +6,7 @@ use mathlib.Core.Logic.{_⊎_, inl, inr}
 use mathlib.Core.List.{List, [], _∷_, map, foldr, zipWith, List·Memᴰ·head, List·Memᴰ·tail, List·Memᴰ·not-nil}
 use native.Mathlib.Omega.{arith}
 use native.Mathlib.Numerals.{add-one}
-use native.Mathlib.Nat.{le-of-eq, le-of-lt, min-le-left, le-min}
+use native.Mathlib.Nat.{min-le-right, le-of-eq, le-of-lt, min-le-left, le-min}
 use native.Mathlib.Decide.{ℕ-discrete}
 use lib.Dec.{eqb, leb, ltb}
 use lib.ListN.{length}
@@ -18,16 +18,22 @@ use Rattle.wire.specs.declared.form.Form.{Form}
 use Rattle.wire.specs.Form.{formOf, refusalOf, operandsOf}
 use Rattle.interval.specs.Intervals.{rankOf}
 use Rattle.places.specs.Places.{permittedHere, leastPermitted}
+use Rattle.areas.specs.declared.Area.{Area}
+use Rattle.areas.specs.declared.LineSpeed.{LineSpeed}
+use Rattle.areas.specs.declared.Stay.{Stay}
+use Rattle.areas.specs.Numbers.{isArea}
+use Rattle.areas.specs.Stays.{lineSpeed, areaSpeed}
+use Rattle.areas.proofs.Told.{partial-is}
 use Rattle.curve.specs.declared.Judged.{Judged}
 use Rattle.rules.specs.Numbers.{answerNumber, codeOf}
 use Rattle.rules.specs.Operands.{codeByte}
 use Rattle.rules.specs.Places.{anyOf, allOf, freeSection, endingSection, movedSection, allCurvesHeld, allSectionsHeld, holdsCurve, holdsSection}
-use Rattle.rules.specs.Speeds.{stopSpeed, vmaxOf, permittedSpeed}
+use Rattle.rules.specs.Speeds.{sectionSpeed, stopSpeed, vmaxOf, permittedSpeed}
 use Rattle.rules.specs.Shows.{candidate, noCandidate, isLower, goesBefore, chosenOf, chosenFrom, chosen}
 use Rattle.rules.specs.Refusals.{Rule, firstOf, rulesFor, findsNoPlace, wholeAnswer, answerFor, answerOf}
 use Rattle.rules.specs.Calls.{callOf}
 use Rattle.rules.specs.Runs.{Sent, answerTo}
-use Rattle.rules.specs.Claims.{countedTimes, CodesAreTheTable, FirstFourAreWire, AllHeldMeansAll, SectionEndsAtRear, VmaxIsLeast, PermittedIsLeast, ShownIsFirst, CheckFailsAtLimit}
+use Rattle.rules.specs.Claims.{UpToLine, countedTimes, CodesAreTheTable, FirstFourAreWire, AllHeldMeansAll, SectionEndsAtRear, VmaxIsLeast, PermittedIsLeast, ShownIsFirst, CheckFailsAtLimit}
 use Rattle.rules.specs.declared.Answer.{Answer}
 use Rattle.rules.specs.declared.Code.{Code}
 use Rattle.rules.specs.declared.Check.{Check}
@@ -173,22 +179,49 @@ module _ {A : Type 0} (held : A → Bool) (speed : A → ℕ) (base limit : ℕ)
     λ n u. le-min (u .limited) (least-most xs n (u .based) (u .given)),
   )
 
+-- the area's part
+line-up-to : (line : LineSpeed) (n : ℕ) → n ≤ lineSpeed line → UpToLine line n
+line-up-to LineSpeed.Dark n h = h
+line-up-to (LineSpeed.Board speed) n h = h
+
+up-to-line : (line : LineSpeed) (n : ℕ) → UpToLine line n → n ≤ lineSpeed line
+up-to-line LineSpeed.Dark n h = h
+up-to-line (LineSpeed.Board speed) n h = h
+
+module _ (base n : ℕ) (stay : Stay) where
+  area-up-to : n ≤ areaSpeed base stay → stay .area ≡ Area.Partial → UpToLine (stay .line) n
+  unfolding areaSpeed
+  area-up-to h p =
+      line-up-to (stay .line) n
+      (up-to-so (isArea Area.Partial (stay .area)) n (lineSpeed (stay .line)) base h (ap (isArea Area.Partial) p))
+
+  up-to-area : n ≤ base → (stay .area ≡ Area.Partial → UpToLine (stay .line) n) → n ≤ areaSpeed base stay
+  unfolding areaSpeed
+  up-to-area b u =
+      up-to-either (isArea Area.Partial (stay .area)) n (lineSpeed (stay .line)) base b
+      (λ t. up-to-line (stay .line) n (u (partial-is (stay .area) t)))
+
 pub vmax-is-least : VmaxIsLeast
 unfolding vmaxOf
 vmax-is-least train track =
     let base = train .speed in
     let stop = stopSpeed base (track .forty) in
-    let l = is-least (λ section. section .held) (λ section. section .speed) base stop (track .sections) in (
+    let area = areaSpeed base (track .stay) in
+    let l = is-least (λ section. section .held) (λ section. section .speed) base stop (track .sections) in
+    let inner = min stop (foldr min base (map (sectionSpeed base) (track .sections))) in
+    let below : min area inner ≤ inner = min-le-right area inner in (
       record {
-        speed = l .0 .based;
-        sections = l .0 .given;
-        forty = up-to-so (track .forty) (vmaxOf train track) 40 base (l .0 .limited);
+        speed = omega (arith, below, l .0 .based);
+        sections = λ section m h. omega (arith, below, l .0 .given section m h);
+        forty = up-to-so (track .forty) (min area inner) 40 base (omega (arith, below, l .0 .limited));
+        area = area-up-to base (min area inner) (track .stay) (min-le-left area inner);
       },
-      λ n u. l .1 n (record {
-        limited = up-to-either (track .forty) n 40 base (u .speed) (u .forty);
-        based = u .speed;
-        given = u .sections;
-      }),
+      λ n u. le-min (up-to-area base n (track .stay) (u .speed) (u .area))
+          (l .1 n (record {
+            limited = up-to-either (track .forty) n 40 base (u .speed) (u .forty);
+            based = u .speed;
+            given = u .sections;
+          })),
     )
 
 permitted-least : (judged : List Judged) → leastPermitted judged ≡ foldr min 300 (map permittedHere judged)

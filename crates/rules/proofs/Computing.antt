@@ -19,10 +19,11 @@ use Rattle.interval.specs.Permitted.{permittedOf}
 use Rattle.interval.specs.Judging.{isFast, brakesAt, judgedOf}
 use Rattle.places.specs.Places.{leastPermitted, anyBrakes}
 use Rattle.colours.specs.Rows.{rows, holdsFor, passing, rowsFor, rowOf}
+use Rattle.areas.proofs.Computing.{areas-compute}
 use Rattle.rules.specs.Numbers.{codeOf, stateOf}
 use Rattle.rules.specs.Operands.{trainOf, trainInRange, startInRange, readingOf, odometerInRange}
-use Rattle.rules.specs.Operands.{curveOf, curveInRange, newCurveInRange, sectionOf, sectionInRange}
-use Rattle.rules.specs.Places.{anyOf, allOf, freshTrack, givenCurve, endedCurve}
+use Rattle.rules.specs.Operands.{curveOf, curveInRange, newCurveInRange, sectionOf, sectionInRange, eventInRange}
+use Rattle.rules.specs.Places.{anyOf, allOf, emptyTrack, freshTrack, clearedTrack, passedTrack, givenCurve, endedCurve}
 use Rattle.rules.specs.Places.{givenSection, endedSection, movedSection, movedTrack}
 use Rattle.rules.specs.Speeds.{brakingOf, judgedNow, vmaxOf, permittedSpeed}
 use Rattle.rules.specs.Table.{noCauses, curveOrders, standsWith, anyStands, orderOf, isSlow}
@@ -38,7 +39,7 @@ use Rattle.rules.specs.Reports.{causesNumber, messagesOf, offeredOf, isO
 use Rattle.rules.specs.Reports.{reportWith, reportInDA, reportOutside, reportOf}
 use Rattle.rules.specs.Commands.{freshKept, freshLast, noTrain, freshWith}
 use Rattle.rules.specs.Commands.{freshStm, stopped, padded, remembered, acceptedOf}
-use Rattle.rules.specs.Refusals.{isRepeat, isNext, endsNothing, findsNoPlace, testsOutside, testsTwice, rulesFor, answerOf}
+use Rattle.rules.specs.Refusals.{isRepeat, isNext, endsNothing, findsNoPlace, testsOutside, testsTwice, isUntaken, rulesFor, answerOf}
 use Rattle.rules.specs.Calls.{callOf, areaOf}
 use Rattle.rules.specs.Runs.{moments, stateAtEnd}
 
@@ -64,14 +65,14 @@ curves-compute = tt
 
 -- a call, and a run of calls
 unfoldable pub computing : Unit {0}
-unfolding feedback-computes curves-compute zipWith
+unfolding feedback-computes curves-compute areas-compute zipWith
     commands lengthIn lengthOf
     codeForm formOf
     number signed
     sameBytes
     codeOf stateOf
-    trainOf trainInRange startInRange readingOf odometerInRange curveOf curveInRange newCurveInRange sectionOf sectionInRange
-    anyOf allOf freshTrack givenCurve endedCurve givenSection endedSection movedSection movedTrack
+    trainOf trainInRange startInRange readingOf odometerInRange curveOf curveInRange newCurveInRange sectionOf sectionInRange eventInRange
+    anyOf allOf emptyTrack freshTrack clearedTrack passedTrack givenCurve endedCurve givenSection endedSection movedSection movedTrack
     brakingOf judgedNow vmaxOf permittedSpeed
     noCauses curveOrders standsWith anyStands orderOf isSlow othersReleasable isReleasable addedCauses isDropped leftCauses
     isDrop checkedAt failsAt checkedBy checkLeft
@@ -82,7 +83,7 @@ unfolding feedback-computes curves-compute zipWith
     goesBefore chosenOf chosenFrom chosen shownAs showingOf rows holdsFor passing rowsFor rowOf
     causesNumber messagesOf offeredOf isOver shownFields changeOf reportWith reportInDA reportOutside reportOf
     freshKept freshLast noTrain freshWith freshStm stopped padded remembered acceptedOf
-    isRepeat isNext endsNothing findsNoPlace testsOutside testsTwice rulesFor answerOf
+    isRepeat isNext endsNothing findsNoPlace testsOutside testsTwice isUntaken rulesFor answerOf
     callOf areaOf
     moments stateAtEnd
 computing = tt

@@ -1,21 +1,23 @@
 -- Free places through a list of commands. Assumes nothing.
 use mathlib.Core.Path.{_≡_, refl, sym, _∙_, ap}
 use Prim.Native.Nat.{ℕ}
-use mathlib.Core.Bool.{Bool, true, false, _&&_, _||_}
+use mathlib.Core.Bool.{Bool, true, false, not, _&&_, _||_}
 use mathlib.Core.List.{List, [], _∷_, map}
+use lib.Dec.{eqb}
 use lib.ListN.{getD}
 use Rattle.wire.specs.Numbers.{byteAt}
 use Rattle.wire.specs.Form.{operandsOf}
 use Rattle.places.specs.Places.{movedHere, movedAll}
 use Rattle.places.proofs.Held.{free-moved, free-noted}
+use Rattle.areas.proofs.Told.{deletes-told}
 use Rattle.rules.specs.Numbers.{isAccepted, isCode, isState, codeOf, stateOf}
 use Rattle.rules.specs.Operands.{codeByte, readingOf}
-use Rattle.rules.specs.Places.{freeCurve, freeSection, endedCurve, endingSection, endedSection, movedSection, movedTrack}
+use Rattle.rules.specs.Places.{freeCurve, freeSection, endedCurve, endingSection, endedSection, movedSection, passedTrack, movedTrack}
 use Rattle.rules.specs.Speeds.{brakingOf}
 use Rattle.rules.specs.Odometer.{keptOf, notedTrack}
 use Rattle.rules.specs.Commands.{stopped, carriedOut}
 use Rattle.rules.specs.Runs.{Sent, answerTo, stateAfter, stateAtEnd, noneAccepted, isOf, freshens}
-use Rattle.rules.specs.History.{curveAt, sectionAt}
+use Rattle.rules.specs.History.{areaIs, entersByGmd, curveAt, sectionAt}
 use Rattle.rules.specs.Ground.{FreePlacesStay}
 use Rattle.rules.specs.declared.Code.{Code}
 use Rattle.rules.specs.declared.State.{State}
@@ -58,7 +60,7 @@ module _ (stm : Stm) (place : ℕ) (free : curveAt place stm .held ≡ false) wh
       → (isCode Code.Start code || isCode Code.ChangeState code && isState State.CS (stateOf (byteAt s 0))) ≡ false
       → isCode Code.NewCurve code ≡ false
       → curveAt place (carriedOut code s stm) ≡ curveAt place stm
-  unfolding stopped
+  unfolding stopped passedTrack
   command-free Code.Start s f n = impossible (sym f)
   command-free Code.ChangeState s f n = rw (track-entered (stateOf (byteAt s 0)) stm f)
   command-free Code.Odometer s f n =
@@ -71,6 +73,7 @@ module _ (stm : Stm) (place : ℕ) (free : curveAt place stm .held ≡ false) wh
   command-free Code.Proceed s f n = refl
   command-free Code.BaliseError s f n = refl
   command-free Code.TestBrakes s f n = refl
+  command-free Code.AreaEvent s f n = refl
 
 -- ---- a free place of sections, after one command
 
@@ -99,20 +102,22 @@ module _ (stm : Stm) (place : ℕ) (free : sectionAt place stm .held ≡ false) 
   command-unheld : (code : Code) (s : List ℕ)
       → (isCode Code.Start code || isCode Code.ChangeState code && isState State.CS (stateOf (byteAt s 0))) ≡ false
       → isCode Code.NewSection code ≡ false
+      → (isCode Code.AreaEvent code && eqb (byteAt s 0) 1 && not (eqb (areaIs stm) 4)) ≡ false
       → sectionAt place (carriedOut code s stm) ≡ sectionAt place stm
-  unfolding stopped
-  command-unheld Code.Start s f n = impossible (sym f)
-  command-unheld Code.ChangeState s f n = rw (track-entered (stateOf (byteAt s 0)) stm f)
-  command-unheld Code.Odometer s f n =
+  unfolding stopped passedTrack
+  command-unheld Code.Start s f n g = impossible (sym f)
+  command-unheld Code.ChangeState s f n g = rw (track-entered (stateOf (byteAt s 0)) stm f)
+  command-unheld Code.Odometer s f n g =
       rw (reported-track (readingOf s) stm (stm .control .state)) (report-unheld (stm .control .state) (readingOf s))
-  command-unheld Code.NewCurve s f n = refl
-  command-unheld Code.EndCurve s f n = refl
-  command-unheld Code.NewSection s f n = impossible (sym n)
-  command-unheld Code.EndSection s f n = ended-unheld (byteAt s 0)
-  command-unheld Code.StopPassed s f n = refl
-  command-unheld Code.Proceed s f n = refl
-  command-unheld Code.BaliseError s f n = refl
-  command-unheld Code.TestBrakes s f n = refl
+  command-unheld Code.NewCurve s f n g = refl
+  command-unheld Code.EndCurve s f n g = refl
+  command-unheld Code.NewSection s f n g = impossible (sym n)
+  command-unheld Code.EndSection s f n g = ended-unheld (byteAt s 0)
+  command-unheld Code.StopPassed s f n g = refl
+  command-unheld Code.Proceed s f n g = refl
+  command-unheld Code.BaliseError s f n g = refl
+  command-unheld Code.TestBrakes s f n g = refl
+  command-unheld Code.AreaEvent s f n g = rw (deletes-told (byteAt s 0) (stm .track .stay) ∙ g)
 
 -- ---- any list
 
@@ -136,7 +141,8 @@ module _ {A : Type 0} (at : Stm → A) (held : A → Bool) (test : Stm → List 
 pub free-places-stay : FreePlacesStay
 free-places-stay stm xs place = (
   over (curveAt place) (λ curve. curve .held) (λ before command. freshens command || isOf Code.NewCurve command) curve-one stm xs,
-  over (sectionAt place) (λ section. section .held) (λ before command. freshens command || isOf Code.NewSection command) section-one stm xs,
+  over (sectionAt place) (λ section. section .held)
+      (λ before command. freshens command || isOf Code.NewSection command || entersByGmd before command) section-one stm xs,
 )
   where
     curve-one : (stm : Stm) (x : Sent) → isAccepted (answerTo stm x) ≡ true
@@ -148,9 +154,10 @@ free-places-stay stm xs place = (
         (command-free stm place free (codeOf (codeByte (x .command))) (operandsOf (x .command)) (t .0) (t .1))
 
     section-one : (stm : Stm) (x : Sent) → isAccepted (answerTo stm x) ≡ true
-        → (freshens (x .command) || isOf Code.NewSection (x .command)) ≡ false
+        → (freshens (x .command) || isOf Code.NewSection (x .command) || entersByGmd stm (x .command)) ≡ false
         → sectionAt place stm .held ≡ false → sectionAt place (stateAfter stm x) ≡ sectionAt place stm
     section-one stm x e n free =
-        let t = neither (freshens (x .command)) (isOf Code.NewSection (x .command)) n in
+        let t = neither (freshens (x .command) || isOf Code.NewSection (x .command)) (entersByGmd stm (x .command)) n in
+        let u = neither (freshens (x .command)) (isOf Code.NewSection (x .command)) (t .0) in
         rw (track-after stm x e)
-        (command-unheld stm place free (codeOf (codeByte (x .command))) (operandsOf (x .command)) (t .0) (t .1))
+        (command-unheld stm place free (codeOf (codeByte (x .command))) (operandsOf (x .command)) (u .0) (u .1) (t .1))

@@ -12,12 +12,15 @@ use Rattle.pressure.specs.Report.{freshFeedback}
 use Rattle.rules.specs.Numbers.{isAccepted, isCode, isState, codeOf, stateOf}
 use Rattle.rules.specs.Operands.{codeByte, readingOf, inRange}
 use Rattle.places.specs.Places.{places}
-use Rattle.rules.specs.Places.{freeCurve, freeSection, freshTrack}
+use Rattle.rules.specs.Places.{emptyTrack, clearedTrack, freeCurve, freeSection, freshTrack}
 use Rattle.rules.specs.Table.{noCauses}
 use Rattle.rules.specs.Releases.{freshBrakes, releasedBrakes}
 use Rattle.rules.specs.Odometer.{withState, withBrakes, seenIn, moves, measures, notes, adds, releases, isFresh, supervised, reportedIn}
 use Rattle.rules.specs.Commands.{freshKept, freshWith, entered, stopped, carriedOut}
 use Rattle.rules.specs.BrakeTest.{freshTest}
+use Rattle.areas.specs.declared.Overlap.{Overlap}
+use Rattle.areas.specs.declared.Stay.{Stay}
+use Rattle.areas.specs.Stays.{freshStay, clearedStay}
 use Rattle.rules.specs.Runs.{Sent, answerTo, stateAfter, isOf}
 use Rattle.rules.specs.History.{firstOperand, isIn, isSupervised}
 use Rattle.rules.specs.Fresh.{HoldsNothing, StartIsFresh, EnteringCS, StateNamed, StateIsEntered, StateStays}
@@ -38,12 +41,14 @@ free-everywhere zero i free = refl
 free-everywhere (suc n) zero free = refl
 free-everywhere (suc n) (suc i) free = free-everywhere n i free
 
-holds-nothing : (stm : Stm) → stm .track ≡ freshTrack → stm .brakes ≡ freshBrakes → HoldsNothing stm
-unfolding freshTrack freshBrakes noCauses
-holds-nothing stm t b = record {
+holds-nothing : (stm : Stm) (stay : Stay) → stm .track ≡ emptyTrack stay → stay .overlap ≡ Overlap.Present → stm .brakes ≡ freshBrakes
+    → HoldsNothing stm
+unfolding emptyTrack freshBrakes noCauses
+holds-nothing stm stay t o b = record {
   curves = λ place. rw (t, free-everywhere places place freeCurve);
   sections = λ place. rw (t, free-everywhere places place freeSection);
   forty = rw t;
+  overlap = rw t o;
   causes = λ cause. rw b (stands-for (λ each. false) cause);
   aimed = rw b;
   unexpected = rw b;
@@ -56,6 +61,14 @@ holds-nothing stm t b = record {
   failed = rw b;
 }
 
+empty-area : (stay : Stay) → emptyTrack stay .stay .area ≡ stay .area
+unfolding emptyTrack
+empty-area stay = refl
+
+empty-line : (stay : Stay) → emptyTrack stay .stay .line ≡ stay .line
+unfolding emptyTrack
+empty-line stay = refl
+
 -- ---- a start
 
 module _ (stm : Stm) (x : Sent) (e : isAccepted (answerTo stm x) ≡ true) where
@@ -67,8 +80,9 @@ module _ (stm : Stm) (x : Sent) (e : isAccepted (answerTo stm x) ≡ true) where
       after ∙ ap (λ is. part (carriedOut is (operandsOf (x .command)) stm)) (code-is code (codeOf (codeByte (x .command))) c)
 
 pub start-is-fresh : StartIsFresh
-unfolding freshWith freshFeedback freshTest freshKept
+unfolding freshWith freshTrack emptyTrack freshFeedback freshTest freshKept
 start-is-fresh stm x e c =
+    let track = part-by stm x e (λ s. s .track) Code.Start c (track-after stm x e) in
     let control = part-by stm x e (λ s. s .control) Code.Start c (control-after stm x e) in
     let feedback = part-by stm x e (λ s. s .feedback) Code.Start c (feedback-after stm x e) in
     let test = part-by stm x e (λ s. s .test) Code.Start c (test-after stm x e) in
@@ -76,8 +90,10 @@ start-is-fresh stm x e c =
       record {
         state = rw control;
         nothing =
-            holds-nothing (stateAfter stm x) (part-by stm x e (λ s. s .track) Code.Start c (track-after stm x e))
+            holds-nothing (stateAfter stm x) freshStay track refl
             (part-by stm x e (λ s. s .brakes) Code.Start c (brakes-after stm x e));
+        area = rw track;
+        line = rw track;
         phase = rw feedback;
         pressure = rw feedback;
         reference = rw feedback;
@@ -107,13 +123,19 @@ told-cs n other = rw (ne-eqb n 1 other) (go (eqb n 0) (eqb n 2) (eqb n 3))
     go false false false = refl
 
 pub entering-cs : EnteringCS
-unfolding stateOf
+unfolding stateOf clearedTrack
 entering-cs stm x e c =
     let track = part-by stm x e (λ s. s .track) Code.ChangeState c (track-after stm x e) in
     let brakes = part-by stm x e (λ s. s .brakes) Code.ChangeState c (brakes-after stm x e) in
     let n = firstOperand (x .command) in (
-      λ is. holds-nothing (stateAfter stm x) (track ∙ ap (λ k. entered (stateOf k) stm .track) is)
-          (brakes ∙ ap (λ k. entered (stateOf k) stm .brakes) is),
+      λ is.
+          let cleared : stateAfter stm x .track ≡ emptyTrack (clearedStay (stm .track .stay)) =
+          track ∙ ap (λ k. entered (stateOf k) stm .track) is in (
+            holds-nothing (stateAfter stm x) (clearedStay (stm .track .stay)) cleared refl
+                (brakes ∙ ap (λ k. entered (stateOf k) stm .brakes) is),
+            ap (λ t. t .stay .area) cleared ∙ empty-area (clearedStay (stm .track .stay)),
+            ap (λ t. t .stay .line) cleared ∙ empty-line (clearedStay (stm .track .stay)),
+          ),
       λ other. (
         track ∙ track-entered (stateOf n) stm (told-cs n other),
         brakes ∙ entered-keeps (stateOf n) stm (told-cs n other),
@@ -188,6 +210,7 @@ other-control Code.StopPassed s stm e f = refl
 other-control Code.Proceed s stm e f = refl
 other-control Code.BaliseError s stm e f = refl
 other-control Code.TestBrakes s stm e f = refl
+other-control Code.AreaEvent s stm e f = refl
 
 pub state-stays : StateStays
 state-stays stm x e c f =

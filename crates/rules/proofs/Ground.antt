@@ -17,7 +17,7 @@ use Rattle.wire.specs.Numbers.{byteAt}
 use Rattle.wire.specs.Form.{operandsOf}
 use Rattle.rules.specs.Numbers.{isAccepted, isCode, isState, codeOf, stateOf}
 use Rattle.rules.specs.Operands.{codeByte, twoAt, readingOf, curveOf}
-use Rattle.rules.specs.Places.{freeCurve, withPast, givenCurve, endedCurve, movedTrack}
+use Rattle.rules.specs.Places.{freeCurve, withPast, givenCurve, endedCurve, passedTrack, movedTrack}
 use Rattle.rules.specs.Speeds.{brakingOf, judgedNow}
 use Rattle.rules.specs.Odometer.{keptOf, notedTrack}
 use Rattle.rules.specs.Commands.{stopped, carriedOut}
@@ -151,7 +151,7 @@ module _ (id place : ℕ) (stm : Stm) (held : curveAt place stm .held ≡ true) 
       → (isCode Code.Start code || isCode Code.ChangeState code && isState State.CS (stateOf (byteAt s 0))) ≡ false
       → ((isCode Code.NewCurve code || isCode Code.EndCurve code) && eqb (byteAt s 0) id) ≡ false
       → HasLost (takes code s) (curveAt place stm) (curveAt place (carriedOut code s stm))
-  unfolding stopped curveOf readingOf
+  unfolding stopped passedTrack curveOf readingOf
   command-lost Code.Start s f n = impossible (sym f)
   command-lost Code.ChangeState s f n = rw (track-entered (stateOf (byteAt s 0)) stm f) (lost-nothing (curveAt place stm) held)
   command-lost Code.Odometer s f n =
@@ -164,6 +164,7 @@ module _ (id place : ℕ) (stm : Stm) (held : curveAt place stm .held ≡ true) 
   command-lost Code.Proceed s f n = lost-nothing (curveAt place stm) held
   command-lost Code.BaliseError s f n = lost-nothing (curveAt place stm) held
   command-lost Code.TestBrakes s f n = lost-nothing (curveAt place stm) held
+  command-lost Code.AreaEvent s f n = lost-nothing (curveAt place stm) held
 
 -- ---- any list
 

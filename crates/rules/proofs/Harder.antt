@@ -24,7 +24,7 @@ compared = record {
   control = refl;
   train = trains 700 600 30 13 (le-by-compare 600 700 tt);
   track =
-      one-curve _ _ 15 places _ false refl refl refl
+      one-curve _ _ 15 places _ false _ refl refl refl
       (record { kind = refl; gradient = λ level. refl; distance = le-by-compare 25000 80000 tt; speed = le-by-compare 30 40 tt });
   brakes = refl;
   feedback = refl;

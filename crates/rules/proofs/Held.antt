@@ -10,7 +10,7 @@ use Rattle.wire.specs.Numbers.{byteAt}
 use Rattle.wire.specs.Form.{operandsOf}
 use Rattle.rules.specs.Numbers.{isAccepted, isCode, isState, codeOf, stateOf}
 use Rattle.rules.specs.Operands.{codeByte, readingOf, curveOf, sectionOf}
-use Rattle.rules.specs.Places.{freshTrack, freeCurve, freeSection, holdsCurve, holdsSection, allCurvesHeld, allSectionsHeld, withPast, endingSection, givenCurve, givenSection, endedCurve, endedSection, movedTrack}
+use Rattle.rules.specs.Places.{emptyTrack, freshTrack, clearedTrack, passedTrack, freeCurve, freeSection, holdsCurve, holdsSection, allCurvesHeld, allSectionsHeld, withPast, endingSection, givenCurve, givenSection, endedCurve, endedSection, movedTrack}
 use Rattle.rules.specs.Odometer.{notedTrack}
 use Rattle.rules.specs.Commands.{freshWith, entered, fortyBy, stopped, carriedOut}
 use Rattle.rules.specs.Refusals.{findsNoPlace}
@@ -128,7 +128,7 @@ report-forty stm r State.FA = refl
 
 -- a start and CS take it away, as a proceed signal does
 entered-forty : (state : State) (stm : Stm) → isState State.CS state ≡ true → entered state stm .track .forty ≡ false
-unfolding freshTrack
+unfolding clearedTrack emptyTrack
 entered-forty State.DE stm e = impossible e
 entered-forty State.CS stm e = refl
 entered-forty State.HS stm e = impossible e
@@ -148,11 +148,12 @@ fortyAfter Code.StopPassed s forty = fortyBy (byteAt s 0) forty
 fortyAfter Code.Proceed s forty = false
 fortyAfter Code.BaliseError s forty = forty
 fortyAfter Code.TestBrakes s forty = forty
+fortyAfter Code.AreaEvent s forty = forty
 
 forty-by : (code : Code) (s : List ℕ) (stm : Stm)
     → (isCode Code.Start code || isCode Code.ChangeState code && isState State.CS (stateOf (byteAt s 0))) ≡ false
     → carriedOut code s stm .track .forty ≡ fortyAfter code s (stm .track .forty)
-unfolding stopped fortyAfter
+unfolding stopped passedTrack fortyAfter
 forty-by Code.Start s stm f = impossible (sym f)
 forty-by Code.ChangeState s stm f = ap (λ track. track .forty) (track-entered (stateOf (byteAt s 0)) stm f)
 forty-by Code.Odometer s stm f =
@@ -166,11 +167,12 @@ forty-by Code.StopPassed s stm f = refl
 forty-by Code.Proceed s stm f = refl
 forty-by Code.BaliseError s stm f = refl
 forty-by Code.TestBrakes s stm f = refl
+forty-by Code.AreaEvent s stm f = refl
 
 forty-fresh : (code : Code) (s : List ℕ) (stm : Stm)
     → (isCode Code.Start code || isCode Code.ChangeState code && isState State.CS (stateOf (byteAt s 0))) ≡ true
     → carriedOut code s stm .track .forty ≡ false
-unfolding freshWith freshTrack
+unfolding freshWith freshTrack emptyTrack
 forty-fresh Code.Start s stm f = refl
 forty-fresh Code.ChangeState s stm f = entered-forty (stateOf (byteAt s 0)) stm f
 forty-fresh Code.Odometer s stm f = impossible f
@@ -182,6 +184,7 @@ forty-fresh Code.StopPassed s stm f = impossible f
 forty-fresh Code.Proceed s stm f = impossible f
 forty-fresh Code.BaliseError s stm f = impossible f
 forty-fresh Code.TestBrakes s stm f = impossible f
+forty-fresh Code.AreaEvent s stm f = impossible f
 
 forty-after : (stm : Stm) (x : Sent) → isAccepted (answerTo stm x) ≡ true
     → stateAfter stm x .track .forty ≡ doneBy (x .command) stm .track .forty
@@ -205,6 +208,7 @@ forty-on Code.StopPassed s e = go (eqb (byteAt s 0) 1)
 forty-on Code.Proceed s e = impossible (sym e)
 forty-on Code.BaliseError s e = refl
 forty-on Code.TestBrakes s e = refl
+forty-on Code.AreaEvent s e = refl
 
 abbrev endsForty : Stm → List ℕ → Bool
 endsForty before command = freshens command || isOf Code.Proceed command
@@ -243,6 +247,7 @@ forty-off Code.StopPassed s e = rw e
 forty-off Code.Proceed s e = refl
 forty-off Code.BaliseError s e = refl
 forty-off Code.TestBrakes s e = refl
+forty-off Code.AreaEvent s e = refl
 
 forty-away : (stm : Stm) (x : Sent) (fresh : Bool) → isAccepted (answerTo stm x) ≡ true → freshens (x .command) ≡ fresh
     → passesStop 1 (x .command) ≡ false → stm .track .forty ≡ false → stateAfter stm x .track .forty ≡ false

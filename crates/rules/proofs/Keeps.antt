@@ -2,9 +2,9 @@
 use mathlib.Core.Path.{_≡_, refl, sym, ap, _∙_, subst}
 use Prim.Native.Nat.{ℕ, zero, suc, _≤_}
 use native.Mathlib.Omega.{arith}
-use mathlib.Core.Bool.{Bool, true, false, not, _&&_, _||_, or-false}
+use mathlib.Core.Bool.{Bool, true, false, cond, not, _&&_, _||_, or-false}
 use mathlib.Core.List.{List, [], _∷_}
-use lib.Dec.{leb}
+use lib.Dec.{eqb, leb}
 use lib.ListN.{length, drop}
 use borrow.Author.Tests.{leb-true, not-false}
 use Rattle.wire.specs.Codes.{longest}
@@ -12,15 +12,18 @@ use Rattle.wire.specs.Numbers.{byteAt}
 use Rattle.wire.specs.Form.{reportLength, operandsOf}
 use Rattle.pressure.specs.Phases.{isSet}
 use Rattle.curve.specs.declared.Curve.{Curve}
+use Rattle.areas.specs.declared.Event.{Event}
+use Rattle.areas.specs.Numbers.{isEvent}
+use Rattle.areas.specs.Rows.{isTaken}
 use Rattle.rules.specs.Numbers.{isCode, isState, codeOf, stateOf, isAccepted}
-use Rattle.rules.specs.Operands.{codeByte, within, bitOf, extraOf, trainOf, trainInRange, startInRange, readingOf, curveOf, curveInRange, newCurveInRange, sectionOf, sectionInRange, inRange}
-use Rattle.rules.specs.Places.{freshTrack, withCurves, withSections, withForty, givenCurve, endedCurve, givenSection, endedSection}
+use Rattle.rules.specs.Operands.{codeByte, within, bitOf, extraOf, trainOf, trainInRange, startInRange, readingOf, curveOf, curveInRange, newCurveInRange, sectionOf, sectionInRange, eventIn, eventSpeed, eventSpeedInRange, eventInRange, inRange}
+use Rattle.rules.specs.Places.{clearedTrack, passedTrack, withCurves, withSections, withForty, givenCurve, endedCurve, givenSection, endedSection}
 use Rattle.rules.specs.Releases.{freshBrakes, brakesBy}
 use Rattle.rules.specs.BrakeTest.{begunTest, leftTest}
 use Rattle.rules.specs.Odometer.{withState, withTrack, withBrakes, withTest}
 use Rattle.rules.specs.Reports.{shownFields, reportWith, reportInDA, reportOutside, reportFor, reportOf}
 use Rattle.rules.specs.Commands.{freshStm, entered, fortyBy, stopped, carriedOut, padded, remembered, acceptedOf}
-use Rattle.rules.specs.Refusals.{isPath, isAllowed, ordersDA, testsOutside}
+use Rattle.rules.specs.Refusals.{isPath, isAllowed, ordersDA, testsOutside, isUntaken}
 use Rattle.rules.specs.Runs.{Sent, answerTo, stateAfter, stateAtEnd}
 use Rattle.rules.specs.Units.{isExtraSound, isSectionSound, IsUnit, CallKeepsUnit, EveryRunIsUnit}
 use Rattle.rules.specs.declared.Code.{Code}
@@ -32,7 +35,7 @@ use Rattle.rules.specs.declared.Track.{Track}
 use Rattle.rules.specs.declared.Stm.{Stm}
 use Rattle.rules.proofs.Answers.{Passed, after-accepted, after-other, passed}
 use Rattle.rules.proofs.Tests.{impossible, and-left, and-right, and-both, or-left, or-right, or-second, unless-used, joined-first, joined-each}
-use Rattle.rules.proofs.SoundTracks.{CurvesSound, SectionsSound, curve-given, curve-ended, section-given, section-ended, track-fresh}
+use Rattle.rules.proofs.SoundTracks.{CurvesSound, SectionsSound, curve-given, curve-ended, section-given, section-ended, TrackSound, track-cleared, track-passed}
 use Rattle.rules.proofs.Counts.{LimitsSound, brakes-fresh, brakes-by}
 use Rattle.rules.proofs.TestParts.{begun-sound, left-sound}
 use Rattle.rules.proofs.UnitParts.{Parts, unit-parts, parts-unit, with-track, with-brakes, fresh-at, fresh-parts, fresh-is-unit}
@@ -76,8 +79,10 @@ module _ (stm : Stm) (p : Parts stm) where
       → Parts (withTest (entered new stm) (leftTest (stm .test)))
   entered-parts State.DE path set = state-parts State.DE path refl set
   entered-parts State.CS path set =
-      let emptied = withTrack (withState stm State.CS) freshTrack in
-      let body = with-track (withState stm State.CS) (p .body) freshTrack (track-fresh (stm .train .length)) in
+      let cleared = clearedTrack (stm .track) in
+      let emptied = withTrack (withState stm State.CS) cleared in
+      let body =
+      with-track (withState stm State.CS) (p .body) cleared (track-cleared (stm .train .length) (stm .track) (p .body .places)) in
       record {
         body = with-brakes emptied body freshBrakes (brakes-fresh (stm .train));
         at = fresh-at State.CS (stm .feedback .phase) set;
@@ -89,20 +94,24 @@ module _ (stm : Stm) (p : Parts stm) where
 
   -- ---- curves, sections, the 40
 
-  track-parts : (track : Track) → CurvesSound (track .curves) → SectionsSound (stm .train .length) (track .sections)
-      → Parts (withTrack stm track)
-  track-parts track c s =
-      record { body = with-track stm (p .body) track (record { curves = c; sections = s }); at = p .at; test = p .test }
+  track-parts : (track : Track) → TrackSound (stm .train .length) track → Parts (withTrack stm track)
+  track-parts track t = record { body = with-track stm (p .body) track t; at = p .at; test = p .test }
 
   curves-parts : (curves : List Curve) → CurvesSound curves → Parts (withTrack stm (withCurves (stm .track) curves))
-  curves-parts curves c = track-parts (withCurves (stm .track) curves) c (p .body .places .sections)
+  curves-parts curves c =
+      let places = p .body .places in
+      track-parts (withCurves (stm .track) curves) (record { curves = c; sections = places .sections; stay = places .stay })
 
   sections-parts : (sections : List Section) → SectionsSound (stm .train .length) sections
       → Parts (withTrack stm (withSections (stm .track) sections))
-  sections-parts sections s = track-parts (withSections (stm .track) sections) (p .body .places .curves) s
+  sections-parts sections s =
+      let places = p .body .places in
+      track-parts (withSections (stm .track) sections) (record { curves = places .curves; sections = s; stay = places .stay })
 
   forty-parts : (forty : Bool) → Parts (withTrack stm (withForty (stm .track) forty))
-  forty-parts forty = track-parts (withForty (stm .track) forty) (p .body .places .curves) (p .body .places .sections)
+  forty-parts forty =
+      let places = p .body .places in
+      track-parts (withForty (stm .track) forty) (record { curves = places .curves; sections = places .sections; stay = places .stay })
 
   -- ---- causes that a command adds, in DA
 
@@ -126,6 +135,24 @@ module _ (stm : Stm) (p : Parts stm) where
   begun-parts : isState State.DE (stm .control .state) ≡ true → Parts (withTest stm (begunTest (stm .test)))
   begun-parts de =
       record { body = p .body; at = p .at; test = begun-sound (stm .train) (stm .control .state) (stm .test) de (p .test) }
+
+-- command 50, with its operands in range and taken
+given-speed : (s : List ℕ) → eventInRange s ≡ true → isEvent Event.GMD (eventIn s) ≡ true → within 10 300 (eventSpeed s) ≡ true
+unfolding eventInRange
+given-speed s e g =
+    ap (λ t. cond t (within 10 300 (eventSpeed s)) (eqb (eventSpeed s) 0)) (sym g)
+    ∙ and-right (leb (byteAt s 0) 6) (eventSpeedInRange (eventIn s) (eventSpeed s)) e
+
+taken-there : (stm : Stm) (s : List ℕ) → isUntaken stm Code.AreaEvent s ≡ false → isTaken (stm .track .stay .area) (eventIn s) ≡ true
+unfolding isUntaken
+taken-there stm s e = not-false (isTaken (stm .track .stay .area) (eventIn s)) e
+
+event-parts : (s : List ℕ) (stm : Stm) → Parts stm → eventInRange s ≡ true → isUntaken stm Code.AreaEvent s ≡ false
+    → Parts (withTrack stm (passedTrack (eventIn s) (eventSpeed s) (stm .track)))
+event-parts s stm p range taken =
+    track-parts stm p (passedTrack (eventIn s) (eventSpeed s) (stm .track))
+    (track-passed (stm .train .length) (eventIn s) (eventSpeed s) (stm .track) (p .body .places) (taken-there stm s taken)
+    (given-speed s range))
 
 stopped-parts : (which : ℕ) (stm : Stm) → Parts stm → LimitsSound (stm .train) → isState State.DA (stm .control .state) ≡ true
     → Parts (stopped which stm)
@@ -203,13 +230,14 @@ asked-in-de stm e = not-false (isState State.DE (stm .control .state)) e
 
 -- ---- every accepted command
 
--- what refusals 5 and 9 to 11 let pass
+-- what refusals 5, 9 to 11, 14 and 16 let pass
 pub record Granted (code : Code) (s : List ℕ) (stm : Stm) : Type 0 where
   pub started : (stm .control .started || isCode Code.Start code) ≡ true
   pub range : inRange code s ≡ true
   pub allowed : isAllowed (stm .control .state) code s ≡ true
   pub reference : (ordersDA code s && not (isSet (stm .feedback .phase))) ≡ false
   pub inDE : testsOutside stm code ≡ false
+  pub taken : isUntaken stm code s ≡ false
 
 carried-parts : (code : Code) (s : List ℕ) (stm : Stm) → Granted code s stm → Parts stm → Parts (carriedOut code s stm)
 carried-parts Code.Start s stm g p = fresh-parts true (trainOf s) (λ _. given-train s (g .range)) (given-extra s)
@@ -237,6 +265,7 @@ carried-parts Code.StopPassed s stm g p = stopped-parts (byteAt s 0) stm p (trai
 carried-parts Code.Proceed s stm g p = forty-parts stm p false
 carried-parts Code.BaliseError s stm g p = by-parts stm p Code.BaliseError 0 (stm .kept .speed) (train-limits stm p (g .started)) (g .allowed)
 carried-parts Code.TestBrakes s stm g p = begun-parts stm p (asked-in-de stm (g .inDE))
+carried-parts Code.AreaEvent s stm g p = event-parts s stm p (g .range) (g .taken)
 
 -- ---- what is remembered of it
 
@@ -266,7 +295,7 @@ remembered-unit command stm p =
 -- ---- every call, every run
 
 granted-of : (command : List ℕ) (stm : Stm) → Passed stm command → Granted (codeOf (codeByte command)) (operandsOf command) stm
-granted-of command stm t = record { started = t .started; range = t .range; allowed = t .allowed; reference = t .reference; inDE = t .inDE }
+granted-of command stm t = record { started = t .started; range = t .range; allowed = t .allowed; reference = t .reference; inDE = t .inDE; taken = t .taken }
 
 accepted-unit : (command : List ℕ) (stm : Stm) → Passed stm command → IsUnit stm → IsUnit (acceptedOf command stm)
 unfolding acceptedOf

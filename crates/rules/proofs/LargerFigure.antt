@@ -29,7 +29,7 @@ compared = record {
   control = refl;
   train = trains 700 700 30 13 (le-refl 700);
   track =
-      one-curve _ _ 15 places _ false refl refl refl
+      one-curve _ _ 15 places _ false _ refl refl refl
       (record { kind = refl; gradient = λ level. refl; distance = le-by-compare 43300 43400 tt; speed = le-refl 40 });
   brakes = refl;
   feedback = refl;

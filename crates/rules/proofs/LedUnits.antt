@@ -71,7 +71,7 @@ standing full brake check = record {
   kept = record { speed = 0; loss = false; text = false; halka = false };
   last = record {
     bytes = padded longest (2 ∷ 0 ∷ 0 ∷ 0 ∷ 33 ∷ 3 ∷ []);
-    report = 3 ∷ 0 ∷ 0 ∷ 0 ∷ 0 ∷ 100 ∷ 0 ∷ 100 ∷ 255 ∷ 0 ∷ 0 ∷ 0 ∷ 0 ∷ 0 ∷ 255 ∷ 255 ∷ 255 ∷ 255 ∷ [];
+    report = 3 ∷ 0 ∷ 0 ∷ 0 ∷ 0 ∷ 100 ∷ 0 ∷ 100 ∷ 255 ∷ 0 ∷ 0 ∷ 0 ∷ 0 ∷ 0 ∷ 255 ∷ 255 ∷ 255 ∷ 255 ∷ 8 ∷ [];
   };
 }
 

@@ -26,6 +26,7 @@ pub mod SectionGround
 pub mod Past
 pub mod Claims
 pub mod Holding
+pub mod SoundStays
 pub mod SoundTracks
 pub mod Counts
 pub mod HighReadings

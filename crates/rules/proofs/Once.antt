@@ -88,6 +88,7 @@ carried-started Code.StopPassed s stm e = was-started stm e
 carried-started Code.Proceed s stm e = was-started stm e
 carried-started Code.BaliseError s stm e = was-started stm e
 carried-started Code.TestBrakes s stm e = was-started stm e
+carried-started Code.AreaEvent s stm e = was-started stm e
 
 pub accepted-started : (stm : Stm) (command : List ℕ) → Passed stm command → acceptedOf command stm .control .started ≡ true
 unfolding acceptedOf remembered

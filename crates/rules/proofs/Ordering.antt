@@ -210,6 +210,7 @@ by-other Code.StopPassed s stm u f = orders (stm .kept .speed) refl
 by-other Code.Proceed s stm u f = unchanged refl refl
 by-other Code.BaliseError s stm u f = orders (stm .kept .speed) refl
 by-other Code.TestBrakes s stm u f = unchanged refl refl
+by-other Code.AreaEvent s stm u f = unchanged refl refl
 
 pub brakes-by-other : (stm : Stm) (x : Sent)
     → isAccepted (answerTo stm x) ≡ true → isSupervised stm (x .command) ≡ false → freshens (x .command) ≡ false

@@ -11,6 +11,8 @@ use Rattle.curve.specs.Claims.{Stricter}
 use Rattle.curve.proofs.Stricter.{same}
 use Rattle.rules.specs.Numbers.{codeOf}
 use Rattle.places.specs.Places.{places}
+use Rattle.areas.specs.declared.Stay.{Stay}
+use Rattle.areas.specs.Stays.{freshStay}
 use Rattle.rules.specs.Places.{anyOf, freeCurve, freeSection}
 use Rattle.rules.specs.Runs.{moments}
 use Rattle.rules.specs.Units.{IsUnit}
@@ -36,24 +38,25 @@ held-first curve n (List·Memᴰ·head p) h = p
 held-first curve n (List·Memᴰ·tail m) h = absurd (none-held (λ x. x .held) freeCurve refl n m h)
 
 -- one curve in each, and sections in the second alone
-pub one-curve : (curve curve′ : Curve) (n m : ℕ) (sections : List Section) (forty : Bool)
+pub one-curve : (curve curve′ : Curve) (n m : ℕ) (sections : List Section) (forty : Bool) (stay : Stay)
     → curve′ .held ≡ curve .held → curve′ .id ≡ curve .id → curve′ .past ≡ curve .past → Stricter curve curve′
-    → TracksCompared (record { curves = curve ∷ replicate n freeCurve; sections = replicate m freeSection; forty = forty })
-    (record { curves = curve′ ∷ replicate n freeCurve; sections = sections; forty = forty })
+    → TracksCompared (record { curves = curve ∷ replicate n freeCurve; sections = replicate m freeSection; forty = forty; stay = stay })
+    (record { curves = curve′ ∷ replicate n freeCurve; sections = sections; forty = forty; stay = stay })
 unfolding anyOf
-one-curve curve curve′ n m sections forty held id past stricter = record {
+one-curve curve curve′ n m sections forty stay held id past stricter = record {
   ids = λ i e. rw (held, id) e;
   curves = λ c c′ h h′ e. rw (held-first curve n (h .place) (h .held), held-first curve′ n (h′ .place) (h′ .held)) stricter;
   past = λ c c′ h h′ e. rw (held-first curve n (h .place) (h .held), held-first curve′ n (h′ .place) (h′ .held)) past;
   sections = λ s h. absurd (none-held (λ x. x .held) freeSection refl m (h .place) (h .held));
   forty = refl;
+  stay = refl;
 }
 
 -- the same curve in each, or none where it is a free place, and no section
 pub same-curve : (curve : Curve) (forty : Bool)
-    → TracksCompared (record { curves = curve ∷ replicate 15 freeCurve; sections = replicate places freeSection; forty = forty })
-    (record { curves = curve ∷ replicate 15 freeCurve; sections = replicate places freeSection; forty = forty })
-same-curve curve forty = one-curve curve curve 15 places (replicate places freeSection) forty refl refl refl (same curve)
+    → TracksCompared (record { curves = curve ∷ replicate 15 freeCurve; sections = replicate places freeSection; forty = forty; stay = freshStay })
+    (record { curves = curve ∷ replicate 15 freeCurve; sections = replicate places freeSection; forty = forty; stay = freshStay })
+same-curve curve forty = one-curve curve curve 15 places (replicate places freeSection) forty freshStay refl refl refl (same curve)
 
 -- a unit and itself
 pub itself : (unit : Stm) → TrainsCompared (unit .train) (unit .train) → TracksCompared (unit .track) (unit .track)

@@ -16,7 +16,7 @@ use Rattle.curve.specs.Ground.{movedBy}
 use Rattle.interval.specs.Judging.{judgedOf, notedAt}
 use Rattle.rules.specs.Numbers.{isAccepted, isCode, isState, codeOf, stateOf}
 use Rattle.rules.specs.Operands.{codeByte, readingOf, curveOf}
-use Rattle.rules.specs.Places.{freeCurve, movedTrack}
+use Rattle.rules.specs.Places.{freeCurve, passedTrack, movedTrack}
 use Rattle.rules.specs.Speeds.{brakingOf}
 use Rattle.rules.specs.Odometer.{keptOf, moves, measures, notes}
 use Rattle.rules.specs.Commands.{stopped, carriedOut}
@@ -85,7 +85,7 @@ module _ (id place : ℕ) (stm : Stm) (held : curveAt place stm .held ≡ true) 
       → ((isCode Code.NewCurve code || isCode Code.EndCurve code) && eqb (byteAt s 0) id) ≡ false
       → (isCode Code.Odometer code && isIn State.DA stm) ≡ false
       → curveAt place (carriedOut code s stm) .past ≡ curveAt place stm .past
-  unfolding stopped curveOf
+  unfolding stopped passedTrack curveOf
   command-past Code.Start s f n u = impossible (sym f)
   command-past Code.ChangeState s f n u = rw (track-entered (stateOf (byteAt s 0)) stm f)
   command-past Code.Odometer s f n u =
@@ -98,6 +98,7 @@ module _ (id place : ℕ) (stm : Stm) (held : curveAt place stm .held ≡ true) 
   command-past Code.Proceed s f n u = refl
   command-past Code.BaliseError s f n u = refl
   command-past Code.TestBrakes s f n u = refl
+  command-past Code.AreaEvent s f n u = refl
 
 module _ (id place : ℕ) where
   one-past : (stm : Stm) (x : Sent) (accepted : Bool) → isAccepted (answerTo stm x) ≡ accepted

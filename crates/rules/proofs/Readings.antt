@@ -96,6 +96,7 @@ other-keeps Code.StopPassed s stm e = (refl, refl)
 other-keeps Code.Proceed s stm e = (refl, refl)
 other-keeps Code.BaliseError s stm e = (refl, refl)
 other-keeps Code.TestBrakes s stm e = (refl, refl)
+other-keeps Code.AreaEvent s stm e = (refl, refl)
 
 abbrev brings : Stm → List ℕ → Bool
 brings before command = isOf Code.Start command || isReport command

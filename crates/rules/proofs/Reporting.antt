@@ -66,6 +66,7 @@ unfolding notedTrack judgedNow
 noted-track train kept track t = record {
   curves = curves-noted (track .curves) (t .curves) (judgedHere (brakingOf train (kept .halka)) (kept .speed));
   sections = t .sections;
+  stay = t .stay;
 }
 
 notes-body : (r : Reading) (stm : Stm) → BodyOf stm → BodyOf (notes r stm)

@@ -4,20 +4,21 @@ use Prim.Native.Nat.{ℕ, _+_, _*_, _≤_, _<_}
 use native.Mathlib.Omega.{arith}
 use native.Mathlib.Nat.{add-zero}
 use native.Mathlib.Decide.{decLt}
-use mathlib.Core.Bool.{Bool, true, false, cond, _&&_, _||_, and-false}
+use mathlib.Core.Bool.{Bool, true, false, cond, not, _&&_, _||_, and-false}
 use mathlib.Core.List.{List, [], _∷_, map}
 use lib.Dec.{eqb, leb}
 use lib.ListN.{getD}
 use Rattle.wire.specs.Numbers.{byteAt}
 use Rattle.wire.specs.Form.{operandsOf}
+use Rattle.areas.proofs.Told.{deletes-told}
 use Rattle.rules.specs.Numbers.{isAccepted, isCode, isState, codeOf, stateOf}
 use Rattle.rules.specs.Operands.{codeByte, twoAt, readingOf, sectionOf}
-use Rattle.rules.specs.Places.{anyOf, placed, freeSection, endingSection, givenSection, endedSection, movedSection, movedTrack}
+use Rattle.rules.specs.Places.{anyOf, placed, freeSection, endingSection, givenSection, endedSection, movedSection, passedTrack, movedTrack}
 use Rattle.rules.specs.Odometer.{notedTrack}
 use Rattle.rules.specs.Commands.{stopped, carriedOut}
 use Rattle.rules.specs.Runs.{Sent, answerTo, stateAfter, stateAtEnd, noneAccepted, isOf, ordersCS, freshens}
-use Rattle.rules.specs.History.{isMoving, movedOf, collected, groundOver, sectionAt}
-use Rattle.rules.specs.Ground.{namesSection, EndsWith, SectionStays, SectionEndsOverGround}
+use Rattle.rules.specs.History.{isMoving, movedOf, areaIs, entersByGmd, collected, groundOver, sectionAt}
+use Rattle.rules.specs.Ground.{namesSection, touchesSection, EndsWith, SectionStays, SectionEndsOverGround}
 use Rattle.rules.specs.Held.{holdsAt}
 use Rattle.rules.specs.declared.Code.{Code}
 use Rattle.rules.specs.declared.State.{State}
@@ -80,30 +81,35 @@ module _ (id place : ℕ) (stm : Stm) where
   abbrev Unfresh : Code → List ℕ → Type 0
   Unfresh code s = (isCode Code.Start code || isCode Code.ChangeState code && isState State.CS (stateOf (byteAt s 0))) ≡ false
 
+  -- and is no entering GMD
+  abbrev Undeleting : Code → List ℕ → Type 0
+  Undeleting code s = (isCode Code.AreaEvent code && eqb (byteAt s 0) 1 && not (eqb (areaIs stm) 4)) ≡ false
+
   module _ (held : sectionAt place stm .held ≡ true) (same : sectionAt place stm .id ≡ id) where
     other-id : (n : ℕ) → eqb n id ≡ false → holdsAt isHeld idOf n (sectionAt place stm) ≡ false
     other-id n e = elsewhere isHeld idOf freeSection refl n (sectionAt place stm) (rw same e)
 
-    command-moved : (code : Code) (s : List ℕ) → Unfresh code s → Unnamed code s
+    command-moved : (code : Code) (s : List ℕ) → Unfresh code s → Unnamed code s → Undeleting code s
         → sectionAt place (carriedOut code s stm)
         ≡ movedOn (isCode Code.Odometer code && moves (stm .control .state)) (stm .train .length) (twoAt s 2) (sectionAt place stm)
-    unfolding stopped sectionOf readingOf givenSection endedSection
-    command-moved Code.Start s f n = impossible (sym f)
-    command-moved Code.ChangeState s f n = rw (track-entered (stateOf (byteAt s 0)) stm f)
-    command-moved Code.Odometer s f n =
+    unfolding stopped passedTrack sectionOf readingOf givenSection endedSection
+    command-moved Code.Start s f n d = impossible (sym f)
+    command-moved Code.ChangeState s f n d = rw (track-entered (stateOf (byteAt s 0)) stm f)
+    command-moved Code.Odometer s f n d =
         rw (reported-track (readingOf s) stm (stm .control .state)) (report-moved stm place (stm .control .state) (readingOf s))
-    command-moved Code.NewCurve s f n = refl
-    command-moved Code.EndCurve s f n = refl
-    command-moved Code.NewSection s f n =
+    command-moved Code.NewCurve s f n d = refl
+    command-moved Code.EndCurve s f n d = refl
+    command-moved Code.NewSection s f n d =
         given-stays isHeld idOf freeSection refl (sectionOf s) (λ old. sectionOf s) (stm .track .sections) place held
         (other-id (byteAt s 0) n)
-    command-moved Code.EndSection s f n =
+    command-moved Code.EndSection s f n d =
         others-stay isHeld idOf freeSection refl (byteAt s 0) (λ old. endingSection old 0) (stm .track .sections) place
         (other-id (byteAt s 0) n)
-    command-moved Code.StopPassed s f n = refl
-    command-moved Code.Proceed s f n = refl
-    command-moved Code.BaliseError s f n = refl
-    command-moved Code.TestBrakes s f n = refl
+    command-moved Code.StopPassed s f n d = refl
+    command-moved Code.Proceed s f n d = refl
+    command-moved Code.BaliseError s f n d = refl
+    command-moved Code.TestBrakes s f n d = refl
+    command-moved Code.AreaEvent s f n d = rw (deletes-told (byteAt s 0) (stm .track .stay) ∙ d)
 
   -- ---- a place that does not hold the id goes on not holding it
 
@@ -124,17 +130,17 @@ module _ (id place : ℕ) (stm : Stm) where
       (cond-by (Gone id) (holdsAt isHeld idOf n (sectionAt place stm)) (g (sectionAt place stm)) (sectionAt place stm)
       (λ _. keeps (sectionAt place stm) gone) (λ _. gone))
 
-  command-gone : (code : Code) (s : List ℕ) → Unfresh code s → Unnamed code s → Gone id (sectionAt place stm)
+  command-gone : (code : Code) (s : List ℕ) → Unfresh code s → Unnamed code s → Undeleting code s → Gone id (sectionAt place stm)
       → Gone id (sectionAt place (carriedOut code s stm))
-  unfolding stopped sectionOf readingOf givenSection endedSection
-  command-gone Code.Start s f n g = impossible (sym f)
-  command-gone Code.ChangeState s f n g = rw (track-entered (stateOf (byteAt s 0)) stm f) g
-  command-gone Code.Odometer s f n g =
+  unfolding stopped passedTrack sectionOf readingOf givenSection endedSection
+  command-gone Code.Start s f n d g = impossible (sym f)
+  command-gone Code.ChangeState s f n d g = rw (track-entered (stateOf (byteAt s 0)) stm f) g
+  command-gone Code.Odometer s f n d g =
       rw (reported-track (readingOf s) stm (stm .control .state), report-moved stm place (stm .control .state) (readingOf s))
       (gone-moved (moves (stm .control .state)) (stm .train .length) (twoAt s 2) (sectionAt place stm) g)
-  command-gone Code.NewCurve s f n g = g
-  command-gone Code.EndCurve s f n g = g
-  command-gone Code.NewSection s f n g =
+  command-gone Code.NewCurve s f n d g = g
+  command-gone Code.EndCurve s f n d g = g
+  command-gone Code.NewSection s f n d g =
       let new = sectionOf s in
       cond-by (λ sections. Gone id (getD sections place freeSection))
       (anyOf (holdsAt isHeld idOf (byteAt s 0)) (stm .track .sections))
@@ -142,44 +148,50 @@ module _ (id place : ℕ) (stm : Stm) where
       (placed isHeld new (stm .track .sections))
       (λ _. gone-changed (byteAt s 0) (λ old. new) (λ old k. n) g)
       (λ _. placed-has isHeld freeSection refl (Gone id) new n (stm .track .sections) place g)
-  command-gone Code.EndSection s f n g = gone-changed (byteAt s 0) (λ old. endingSection old 0) (λ old k. k) g
-  command-gone Code.StopPassed s f n g = g
-  command-gone Code.Proceed s f n g = g
-  command-gone Code.BaliseError s f n g = g
-  command-gone Code.TestBrakes s f n g = g
+  command-gone Code.EndSection s f n d g = gone-changed (byteAt s 0) (λ old. endingSection old 0) (λ old k. k) g
+  command-gone Code.StopPassed s f n d g = g
+  command-gone Code.Proceed s f n d g = g
+  command-gone Code.BaliseError s f n d g = g
+  command-gone Code.TestBrakes s f n d g = g
+  command-gone Code.AreaEvent s f n d g = rw (deletes-told (byteAt s 0) (stm .track .stay) ∙ d) g
 
 -- ---- any list
 
-abbrev leavesSection : ℕ → Stm → List ℕ → Bool
-leavesSection id before command = freshens command || namesSection id command
+-- what is told of a command that does not touch the section
+untouched : (id : ℕ) (stm : Stm) (command : List ℕ) → touchesSection id stm command ≡ false
+    → (freshens command ≡ false) × (namesSection id command ≡ false) × (entersByGmd stm command ≡ false)
+untouched id stm command n =
+    let t = neither (freshens command || namesSection id command) (entersByGmd stm command) n in
+    let u = neither (freshens command) (namesSection id command) (t .0) in
+    (u .0, u .1, t .1)
 
 module _ (id place : ℕ) where
   -- one command that is accepted or not
   one-moved : (stm : Stm) (x : Sent) (accepted : Bool) → isAccepted (answerTo stm x) ≡ accepted
-      → sectionAt place stm .held ≡ true → sectionAt place stm .id ≡ id → (accepted ≡ true → leavesSection id stm (x .command) ≡ false)
+      → sectionAt place stm .held ≡ true → sectionAt place stm .id ≡ id → (accepted ≡ true → touchesSection id stm (x .command) ≡ false)
       → sectionAt place (stateAfter stm x)
       ≡ movedOn (accepted && isMoving stm (x .command)) (stm .train .length) (movedOf (x .command)) (sectionAt place stm)
   one-moved stm x true e held same n =
-      let t = neither (freshens (x .command)) (namesSection id (x .command)) (n refl) in
+      let t = untouched id stm (x .command) (n refl) in
       rw (track-after stm x e)
-      (command-moved id place stm held same (codeOf (codeByte (x .command))) (operandsOf (x .command)) (t .0) (t .1))
+      (command-moved id place stm held same (codeOf (codeByte (x .command))) (operandsOf (x .command)) (t .0) (t .1) (t .2))
   one-moved stm x false e held same n = rw (after-other stm x e)
 
   one-gone : (stm : Stm) (x : Sent) (accepted : Bool) → isAccepted (answerTo stm x) ≡ accepted
-      → (accepted ≡ true → leavesSection id stm (x .command) ≡ false) → Gone id (sectionAt place stm)
+      → (accepted ≡ true → touchesSection id stm (x .command) ≡ false) → Gone id (sectionAt place stm)
       → Gone id (sectionAt place (stateAfter stm x))
   one-gone stm x true e n g =
-      let t = neither (freshens (x .command)) (namesSection id (x .command)) (n refl) in
+      let t = untouched id stm (x .command) (n refl) in
       rw (track-after stm x e)
-      (command-gone id place stm (codeOf (codeByte (x .command))) (operandsOf (x .command)) (t .0) (t .1) g)
+      (command-gone id place stm (codeOf (codeByte (x .command))) (operandsOf (x .command)) (t .0) (t .1) (t .2) g)
   one-gone stm x false e n g = rw (after-other stm x e) g
 
-  gone-over : (stm : Stm) (xs : List Sent) → Gone id (sectionAt place stm) → noneAccepted (leavesSection id) stm xs ≡ true
+  gone-over : (stm : Stm) (xs : List Sent) → Gone id (sectionAt place stm) → noneAccepted (touchesSection id) stm xs ≡ true
       → Gone id (sectionAt place (stateAtEnd stm xs))
   unfolding stateAtEnd
   gone-over stm [] g n = g
   gone-over stm (x ∷ xs) g n =
-      let t = spared-first (leavesSection id) stm x xs n in
+      let t = spared-first (touchesSection id) stm x xs n in
       gone-over (stateAfter stm x) xs (one-gone stm x (isAccepted (answerTo stm x)) refl (t .0) g) (t .1)
 
 -- a section that does not end stays where it is
@@ -191,12 +203,12 @@ standing-moved false length moved section e = refl
 
 stays-over : (id place : ℕ) (stm : Stm) (xs : List Sent)
     → sectionAt place stm .held ≡ true → sectionAt place stm .ending ≡ false → sectionAt place stm .id ≡ id
-    → noneAccepted (leavesSection id) stm xs ≡ true
+    → noneAccepted (touchesSection id) stm xs ≡ true
     → sectionAt place (stateAtEnd stm xs) ≡ sectionAt place stm
 unfolding stateAtEnd
 stays-over id place stm [] held stands same n = refl
 stays-over id place stm (x ∷ xs) held stands same n =
-    let t = spared-first (leavesSection id) stm x xs n in
+    let t = spared-first (touchesSection id) stm x xs n in
     let accepted = isAccepted (answerTo stm x) in
     let first = one-moved id place stm x accepted refl held same (t .0)
     ∙ standing-moved (accepted && isMoving stm (x .command)) (stm .train .length) (movedOf (x .command)) (sectionAt place stm) stands in
@@ -245,23 +257,23 @@ module _ (id place length : ℕ) where
     pub train : stm .train .length ≡ length
 
   length-kept : (stm : Stm) (x : Sent) (accepted : Bool) → isAccepted (answerTo stm x) ≡ accepted
-      → (accepted ≡ true → leavesSection id stm (x .command) ≡ false) → stm .train .length ≡ length
+      → (accepted ≡ true → touchesSection id stm (x .command) ≡ false) → stm .train .length ≡ length
       → stateAfter stm x .train .length ≡ length
   length-kept stm x true e n h =
-      let f = neither (freshens (x .command)) (namesSection id (x .command)) (n refl) .0 in
+      let f = untouched id stm (x .command) (n refl) .0 in
       let start = neither (isOf Code.Start (x .command)) (ordersCS (x .command)) f .0 in
       rw (train-after stm x e) (ap (λ t. t .length) (train-kept (codeOf (codeByte (x .command))) (operandsOf (x .command)) stm start) ∙ h)
   length-kept stm x false e n h = rw (after-other stm x e) h
 
-  module _ (stm : Stm) (x : Sent) (xs : List Sent) (n : noneAccepted (leavesSection id) stm (x ∷ xs) ≡ true) (s : Ending stm) where
+  module _ (stm : Stm) (x : Sent) (xs : List Sent) (n : noneAccepted (touchesSection id) stm (x ∷ xs) ≡ true) (s : Ending stm) where
     abbrev accepted : Bool
     accepted = isAccepted (answerTo stm x)
 
     abbrev moved : ℕ
     moved = cond (accepted && isMoving stm (x .command)) (movedOf (x .command)) 0
 
-    spares : (accepted ≡ true → leavesSection id stm (x .command) ≡ false) × (noneAccepted (leavesSection id) (stateAfter stm x) xs ≡ true)
-    spares = spared-first (leavesSection id) stm x xs n
+    spares : (accepted ≡ true → touchesSection id stm (x .command) ≡ false) × (noneAccepted (touchesSection id) (stateAfter stm x) xs ≡ true)
+    spares = spared-first (touchesSection id) stm x xs n
 
     first-moved : sectionAt place (stateAfter stm x)
         ≡ movedOn (accepted && isMoving stm (x .command)) length (movedOf (x .command)) (sectionAt place stm)
@@ -315,7 +327,7 @@ module _ (id place length : ℕ) where
       on : Ends stm (stateAtEnd (stateAfter stm x) xs) (moved + later)
       on = elim (decLt (sectionAt place stm .ground + moved) (100 * length)) [ yes l ↦ on-ends l | no l ↦ on-gone (omega arith) ]
 
-  ends-over : (stm : Stm) (xs : List Sent) → noneAccepted (leavesSection id) stm xs ≡ true → Ending stm
+  ends-over : (stm : Stm) (xs : List Sent) → noneAccepted (touchesSection id) stm xs ≡ true → Ending stm
       → Ends stm (stateAtEnd stm xs) (groundOver stm xs)
   unfolding collected stateAtEnd
   ends-over stm [] n s = record {

@@ -1,4 +1,4 @@
--- What the commands and the reports keep of the curves and of the sections: 16 places, figures in range, no id twice.
+-- What the commands and the reports keep of the track: of curves and sections 16 places, figures in range, no id twice; a sound stay.
 use mathlib.Core.Path.{_≡_, refl, sym, subst}
 use Prim.Native.Nat.{ℕ, _+_, _-_, _*_, _≤_}
 use native.Mathlib.Omega.{arith}
@@ -11,12 +11,18 @@ use Rattle.curve.specs.declared.Judged.{Judged}
 use Rattle.curve.specs.Ground.{movedBy}
 use Rattle.interval.specs.Judging.{notedAt}
 use Rattle.places.specs.Places.{movedAll, notedAll}
-use Rattle.rules.specs.Operands.{speedInRange, curveInRange, sectionInRange}
-use Rattle.rules.specs.Places.{allOf, freeCurve, freeSection, freshTrack, isCurve, isSection, withPast, givenCurve, endedCurve, givenSection, endingSection, endedSection, movedSection, movedTrack}
-use Rattle.rules.specs.Units.{isCurveSound, isGroundSound, isSectionSound}
+use Rattle.areas.specs.declared.Event.{Event}
+use Rattle.areas.specs.declared.Stay.{Stay}
+use Rattle.areas.specs.Numbers.{isEvent}
+use Rattle.areas.specs.Rows.{isTaken}
+use Rattle.areas.specs.Stays.{freshStay, clearedStay, deletesSections}
+use Rattle.rules.specs.Operands.{within, speedInRange, curveInRange, sectionInRange}
+use Rattle.rules.specs.Places.{allOf, freeCurve, freeSection, noSections, emptyTrack, freshTrack, clearedTrack, passedTrack, isCurve, isSection, withPast, givenCurve, endedCurve, givenSection, endingSection, endedSection, movedSection, movedTrack}
+use Rattle.rules.specs.Units.{isCurveSound, isGroundSound, isSectionSound, isStaySound}
 use Rattle.rules.specs.declared.Section.{Section}
 use Rattle.rules.specs.declared.Track.{Track}
 use Rattle.rules.proofs.Tests.{impossible, and-left, and-both, if-made, if-mono, cond-by, zip-self}
+use Rattle.rules.proofs.SoundStays.{stay-cleared, stay-covered, stay-passed}
 use Rattle.rules.proofs.Holding.{Sound, map-sound, changed-sound, given-sound}
 
 -- ---- curves
@@ -120,12 +126,38 @@ module _ (length : ℕ) where
 pub record TrackSound (length : ℕ) (track : Track) : Type 0 where
   pub curves : CurvesSound (track .curves)
   pub sections : SectionsSound length (track .sections)
+  pub stay : isStaySound (track .stay) ≡ true
+
+sections-empty : (length : ℕ) → SectionsSound length noSections
+unfolding allOf
+sections-empty length = record { size = refl; each = refl; once = refl }
+
+track-empty : (length : ℕ) (stay : Stay) → isStaySound stay ≡ true → TrackSound length (emptyTrack stay)
+unfolding emptyTrack allOf
+track-empty length stay s = record {
+  curves = record { size = refl; each = refl; once = refl };
+  sections = sections-empty length;
+  stay = s;
+}
 
 pub track-fresh : (length : ℕ) → TrackSound length freshTrack
-unfolding freshTrack allOf
-track-fresh length = record {
-  curves = record { size = refl; each = refl; once = refl };
-  sections = record { size = refl; each = refl; once = refl };
+unfolding freshTrack
+track-fresh length = track-empty length freshStay refl
+
+pub track-cleared : (length : ℕ) (track : Track) → TrackSound length track → TrackSound length (clearedTrack track)
+unfolding clearedTrack
+track-cleared length track s = track-empty length (clearedStay (track .stay)) (stay-cleared (track .stay) (s .stay))
+
+-- an event that is taken, its speed in range
+pub track-passed : (length : ℕ) (event : Event) (speed : ℕ) (track : Track) → TrackSound length track → isTaken (track .stay .area) event ≡ true
+    → (isEvent Event.GMD event ≡ true → within 10 300 speed ≡ true) → TrackSound length (passedTrack event speed track)
+unfolding passedTrack
+track-passed length event speed track s t r = record {
+  curves = s .curves;
+  sections =
+      cond-by (SectionsSound length) (deletesSections event (track .stay)) noSections (track .sections) (λ _. sections-empty length)
+      (λ _. s .sections);
+  stay = stay-passed event speed (track .stay) (s .stay) t r;
 }
 
 pub track-moved : (length moved : ℕ) (track : Track) → TrackSound length track → TrackSound length (movedTrack length moved track)
@@ -133,4 +165,5 @@ unfolding movedTrack
 track-moved length moved track s = record {
   curves = curves-moved (track .curves) (s .curves) moved;
   sections = sections-moved length moved (track .sections) (s .sections);
+  stay = stay-covered moved (track .stay) (s .stay);
 }

@@ -15,7 +15,7 @@ use Rattle.rules.specs.Releases.{releasedBrakes}
 use Rattle.rules.specs.Odometer.{withState, withBrakes, withTest, withExtra, withTrain, seenIn, moves, measures, notes, adds, releases, isFresh, supervised, reportedIn}
 use Rattle.rules.specs.Reports.{messagesOf, reportInDA, reportOutside, testOrder, reportFor, reportOf}
 use Rattle.rules.specs.Commands.{freshWith, entered, stopped, carriedOut, withLast, remembered, acceptedOf}
-use Rattle.rules.specs.Refusals.{isRepeat, isNext, endsNothing, findsNoPlace, testsOutside, testsTwice, rulesFor, firstOf, answerFor, answerOf}
+use Rattle.rules.specs.Refusals.{isRepeat, isNext, endsNothing, findsNoPlace, testsOutside, testsTwice, isUntaken, rulesFor, firstOf, answerFor, answerOf}
 use Rattle.rules.specs.Calls.{callOf}
 use Rattle.rules.specs.Runs.{Sent, answerTo, stateAfter, momentOf, moments, stateAtEnd, isOf}
 use Rattle.rules.specs.History.{isIn}
@@ -75,7 +75,7 @@ aside-like test last extra u = record { control = refl; train = refl; track = re
 
 test-apart : (u w : Stm) (command : List ℕ) (code : Code) (s : List ℕ) → LikeButTest u w → w .last .bytes ≡ u .last .bytes
     → isCode Code.TestBrakes code ≡ false → rulesFor w command code s ≡ rulesFor u command code s
-unfolding rulesFor isRepeat isNext endsNothing findsNoPlace testsOutside testsTwice
+unfolding rulesFor isRepeat isNext endsNothing findsNoPlace testsOutside testsTwice isUntaken
 test-apart u w command code s like bytes other = rw (other, like .control, like .track, like .feedback, bytes)
 
 same-answer : (u w : Stm) (x : Sent) → LikeButTest u w → w .last .bytes ≡ u .last .bytes → isOf Code.TestBrakes (x .command) ≡ false
@@ -155,6 +155,8 @@ carried-like Code.Proceed s u test last extra other same =
 carried-like Code.BaliseError s u test last extra other same =
     record { control = refl; train = refl; track = refl; brakes = refl; feedback = refl; kept = refl }
 carried-like Code.TestBrakes s u test last extra other same = impossible (sym other)
+carried-like Code.AreaEvent s u test last extra other same =
+    record { control = refl; train = refl; track = refl; brakes = refl; feedback = refl; kept = refl }
 
 -- the last command and its report aside
 last-aside : (u w : Stm) (last last′ : Last) → LikeButTest u w → LikeButTest (withLast u last) (withLast w last′)
@@ -267,6 +269,7 @@ extras-by Code.StopPassed s u w control same da = same
 extras-by Code.Proceed s u w control same da = same
 extras-by Code.BaliseError s u w control same da = same
 extras-by Code.TestBrakes s u w control same da = same
+extras-by Code.AreaEvent s u w control same da = same
 
 extras-after : (u w : Stm) (x : Sent) → isAccepted (answerTo u x) ≡ true → isAccepted (answerTo w x) ≡ true → w .control ≡ u .control
     → w .train .times .extra ≡ u .train .times .extra → isIn State.DA (stateAfter u x) ≡ true

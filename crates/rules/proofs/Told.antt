@@ -19,6 +19,7 @@ code-told Code.StopPassed = refl
 code-told Code.Proceed = refl
 code-told Code.BaliseError = refl
 code-told Code.TestBrakes = refl
+code-told Code.AreaEvent = refl
 
 state-told : (state : State) → stateOf (stateNumber state) ≡ state
 unfolding stateOf

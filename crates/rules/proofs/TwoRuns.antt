@@ -92,6 +92,7 @@ is-odometer Code.StopPassed e = absurd (false≢true e)
 is-odometer Code.Proceed e = absurd (false≢true e)
 is-odometer Code.BaliseError e = absurd (false≢true e)
 is-odometer Code.TestBrakes e = absurd (false≢true e)
+is-odometer Code.AreaEvent e = absurd (false≢true e)
 
 abbrev IsOdometer : List ℕ → Type 0
 IsOdometer command = codeOf (codeByte command) ≡ Code.Odometer
@@ -193,6 +194,7 @@ area-answered Answer.NotHeld report area e = absurd (false≢true (sym e))
 area-answered Answer.AllHeld report area e = absurd (false≢true (sym e))
 area-answered Answer.OutsideDE report area e = absurd (false≢true (sym e))
 area-answered Answer.TestRunning report area e = absurd (false≢true (sym e))
+area-answered Answer.NotTaken report area e = absurd (false≢true (sym e))
 
 -- where a command is not refused, the area holds the report that the unit keeps
 area-is : (stm : Stm) (x : Sent) → isRefused (answerTo stm x) ≡ false → momentOf stm x .area ≡ stateAfter stm x .last .report

@@ -21,6 +21,8 @@ use Rattle.interval.specs.Claims.{WeakerBraking}
 use Rattle.interval.proofs.Later.{interval-is-not-earlier, still-brakes}
 use Rattle.interval.proofs.Halving.{permitted-is-not-higher}
 use Rattle.places.proofs.Held.{permits-here, brakes-here}
+use Rattle.areas.specs.declared.Stay.{Stay}
+use Rattle.areas.specs.Stays.{areaSpeed}
 use Rattle.rules.specs.Places.{anyOf}
 use Rattle.rules.specs.Speeds.{brakingOf, judgedNow, sectionSpeed, stopSpeed, vmaxOf, permittedSpeed}
 use Rattle.rules.specs.TwoRuns.{TrainsCompared}
@@ -134,25 +136,26 @@ module _ {braking braking′ : Braking} (weaker : WeakerBraking braking braking�
 
 -- ---- VMAX
 
--- what limits the train's speed: 40 after an unexpected stop, and the sections
-abbrev limits : ℕ → Bool → List Section → List ℕ
-limits speed forty sections = stopSpeed speed forty ∷ map (sectionSpeed speed) sections
+-- what limits the train's speed: the area, 40 after an unexpected stop, and the sections
+abbrev limits : ℕ → Stay → Bool → List Section → List ℕ
+limits speed stay forty sections = areaSpeed speed stay ∷ stopSpeed speed forty ∷ map (sectionSpeed speed) sections
 
-module _ (speed : ℕ) (forty : Bool) {sections sections′ : List Section} (below : SectionsBelow sections sections′) where
+module _ (speed : ℕ) (stay : Stay) (forty : Bool) {sections sections′ : List Section} (below : SectionsBelow sections sections′) where
   -- a held section limits the second too; a place that holds none leaves the train's speed
   section-limits : (section : Section) → section ∈ sections → (t : Bool) → section .held ≡ t
-      → foldr min speed (limits speed forty sections′) ≤ sectionSpeed speed section
+      → foldr min speed (limits speed stay forty sections′) ≤ sectionSpeed speed section
   section-limits section place true e =
       let holds′ : HoldsSection sections′ section = below section (record { place = place; held = e }) in
-      least-within speed (limits speed forty sections′) (List·Memᴰ·tail (Memᴰ·map (sectionSpeed speed) (holds′ .place)))
-  section-limits section place false e = rw e (least-within-base speed (limits speed forty sections′))
+      least-within speed (limits speed stay forty sections′) (List·Memᴰ·tail (List·Memᴰ·tail (Memᴰ·map (sectionSpeed speed) (holds′ .place))))
+  section-limits section place false e = rw e (least-within-base speed (limits speed stay forty sections′))
 
-  least-limit-no-more : foldr min speed (limits speed forty sections′) ≤ foldr min speed (limits speed forty sections)
-  least-limit-no-more = least-no-more speed (limits speed forty sections) (limits speed forty sections′) within
+  least-limit-no-more : foldr min speed (limits speed stay forty sections′) ≤ foldr min speed (limits speed stay forty sections)
+  least-limit-no-more = least-no-more speed (limits speed stay forty sections) (limits speed stay forty sections′) within
     where
-      within : (x : ℕ) → x ∈ limits speed forty sections → foldr min speed (limits speed forty sections′) ≤ x
-      within x (List·Memᴰ·head p) = least-within speed (limits speed forty sections′) (List·Memᴰ·head p)
-      within x (List·Memᴰ·tail m) =
+      within : (x : ℕ) → x ∈ limits speed stay forty sections → foldr min speed (limits speed stay forty sections′) ≤ x
+      within x (List·Memᴰ·head p) = least-within speed (limits speed stay forty sections′) (List·Memᴰ·head p)
+      within x (List·Memᴰ·tail (List·Memᴰ·head p)) = least-within speed (limits speed stay forty sections′) (List·Memᴰ·tail (List·Memᴰ·head p))
+      within x (List·Memᴰ·tail (List·Memᴰ·tail m)) =
           let (section, place, e) = Memᴰ·of-map (sectionSpeed speed) sections m in
           rw (← e) (section-limits section place (section .held) refl)
 
@@ -193,7 +196,7 @@ module _ {train train′ : Train} (trains : TrainsCompared train train′) where
   module _ {track track′ : Track} (tracks : TracksBelow track track′) where
     pub vmax-no-higher : vmaxOf train′ track′ ≤ vmaxOf train track
     unfolding vmaxOf
-    vmax-no-higher = rw (trains .speed, tracks .forty) (least-limit-no-more (train .speed) (track .forty) (tracks .sections))
+    vmax-no-higher = rw (trains .speed, tracks .forty, tracks .stay) (least-limit-no-more (train .speed) (track .stay) (track .forty) (tracks .sections))
 
     module _ {kept kept′ : Kept} (kepts : KeptBelow kept kept′) where
       pub curves-still-brake : (interval : Interval)

@@ -10,6 +10,7 @@ use Rattle.curve.specs.declared.Curve.{Curve}
 use Rattle.curve.specs.declared.Braking.{Braking}
 use Rattle.interval.specs.Judging.{notedAt}
 use Rattle.places.specs.Places.{movedHere, judgedHere, judgedAll, notedAll}
+use Rattle.areas.specs.Stays.{coveredStay}
 use Rattle.curve.specs.Claims.{Stricter}
 use Rattle.places.proofs.Held.{held-moved, moved-held, moved-id}
 use Rattle.rules.specs.Places.{isCurve, holdsCurve, movedSection, movedTrack}
@@ -39,6 +40,7 @@ pub record TracksBelow (track track′ : Track) : Type 0 where
   pub curves : CurvesBelow (track .curves) (track′ .curves)
   pub sections : SectionsBelow (track .sections) (track′ .sections)
   pub forty : track′ .forty ≡ track .forty
+  pub stay : track′ .stay ≡ track .stay
 
 -- ---- at the beginning
 
@@ -60,6 +62,7 @@ tracks-at-first {track′ = track′} compared = record {
   };
   sections = compared .sections;
   forty = compared .forty;
+  stay = compared .stay;
 }
 
 -- ---- curves changed
@@ -140,6 +143,7 @@ tracks-moved length moved below = record {
   curves = curves-changed (moved-keeps moved) (moved-keeps moved) (moved-stricter moved) (below .curves);
   sections = sections-moved length moved (below .sections);
   forty = below .forty;
+  stay = ap (coveredStay moved) (below .stay);
 }
 
 -- ---- past in B noted
@@ -174,4 +178,5 @@ tracks-noted train train′ kept kept′ {track} {track′} below =
           (noted-stricter braking braking′ (kept .speed) (kept′ .speed)) (below .curves));
       sections = below .sections;
       forty = below .forty;
+      stay = below .stay;
     }

@@ -63,6 +63,7 @@ unit-parts stm u = record {
     places = record {
       curves = record { size = u .curvePlaces; each = u .curves; once = u .curveIds };
       sections = record { size = u .sectionPlaces; each = u .sections; once = u .sectionIds };
+      stay = u .stay;
     };
     counts = record { service = u .service; emergency = u .emergency; hold = u .hold; roll = u .roll; drift = u .drift };
     reached = u .feedback;
@@ -82,6 +83,7 @@ parts-unit stm p bytes report =
       train = b .range;
       curves = b .places .curves .each;
       sections = b .places .sections .each;
+      stay = b .places .stay;
       speed = b .speed;
       feedback = b .reached;
       stage = p .test .stage;

@@ -22,6 +22,7 @@ use Rattle.interval.specs.Judging.{judgedOf}
 use Rattle.places.specs.Places.{judgedHere}
 use Rattle.places.proofs.Held.{held-judged, judged-held}
 use Rattle.colours.specs.Numbers.{showingNumber, barNumber, modeNumber}
+use Rattle.areas.specs.Numbers.{areaNumber}
 use Rattle.colours.specs.Rows.{rows, isMet, holdsFor, passing, rowsFor, rowOf}
 use Rattle.colours.specs.declared.Showing.{Showing}
 use Rattle.colours.specs.declared.Row.{Row}
@@ -114,7 +115,7 @@ module _ (stm : Stm) where
       ∷ modeNumber (rowFor shown .mode)
       ∷ messagesOf (stm .brakes) (stm .feedback) (stm .test)
       ∷ offeredOf (seenIn stm) (stm .brakes .causes)
-      ∷ four (changeOf (stm .train) (stm .kept) shown) [])))
+      ∷ four (changeOf (stm .train) (stm .kept) shown) (areaNumber (stm .track .stay .area) ∷ []))))
 
   pub da-fields : reportInDA stm ≡ inDA
   unfolding reportInDA reportWith shownFields
@@ -376,7 +377,7 @@ module _ (stm : Stm) where
       bar = refl;
       mode = refl;
       colours = λ past sufficient. record { row = _; alone = refl; bar = refl; mode = refl };
-      change = four-read never [];
+      change = four-read never _;
     };
     offered = refl;
   }

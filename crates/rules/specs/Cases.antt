@@ -7,14 +7,14 @@ use mathlib.Core.List.{List, [], _∷_, _++_, map, foldr}
 use lib.Dec.{eqb}
 use lib.ListN.{take, replicate}
 use Rattle.wire.specs.Bytes.{sameBytes}
-use Rattle.wire.specs.Report.{stateIn, orderIn, causesIn, permittedIn, vmaxIn, idIn, shownIn, barIn, modeIn, messagesIn, offeredIn}
+use Rattle.wire.specs.Report.{stateIn, orderIn, causesIn, permittedIn, vmaxIn, idIn, shownIn, barIn, modeIn, messagesIn, offeredIn, areaIn}
 use Rattle.rules.specs.Numbers.{answerNumber}
 use Rattle.rules.specs.Places.{allOf}
 use Rattle.rules.specs.Commands.{freshStm}
 use Rattle.rules.specs.Runs.{send, Moment, momentOf, stateAfter}
 use Rattle.rules.specs.History.{sum}
 use Rattle.rules.specs.Tables.{Command, start, state, report, curve, curveEnd, section, sectionEnd, stop, proceed}
-use Rattle.rules.specs.Tables.{baliseError, testBrakes, sent, further, halts, withReference}
+use Rattle.rules.specs.Tables.{baliseError, testBrakes, event, sent, further, halts, withReference}
 use Rattle.rules.specs.declared.Answer.{Answer}
 use Rattle.rules.specs.declared.Stm.{Stm}
 
@@ -33,7 +33,7 @@ refused figure m = answer figure m && allOf (eqb 255) (m .area)
 abbrev pub written : List ℕ → Test
 written report m = sameBytes (m .area) report
 
--- but for the last four bytes, which stand in ChangeFigures where a curve is shown
+-- but for the last five bytes: the first four of them stand in ChangeFigures where a curve is shown
 abbrev pub begins : List ℕ → Test
 begins report m = sameBytes (take 14 (m .area)) report
 
@@ -66,6 +66,9 @@ messages figure m = eqb (messagesIn (m .area)) figure
 
 abbrev pub offered : ℕ → Test
 offered figure m = eqb (offeredIn (m .area)) figure
+
+abbrev pub area : ℕ → Test
+area figure m = eqb (areaIn (m .area)) figure
 
 -- ---- cases
 
@@ -237,11 +240,11 @@ stopCases =
     -- "Entering CS drops curves, sections, causes, their counters and the 40"; in DA at overspeed nothing is ordered before the
     -- next report
     ∷ after (stop 1 ∷ section 1 50 ∷ curve 1 0 0 40 0 ∷ atSpeed 3056 0 ∷ state 1 ∷ [])
-    (written (1 ∷ 0 ∷ 0 ∷ 0 ∷ 0 ∷ 0 ∷ 0 ∷ 0 ∷ 255 ∷ 0 ∷ 0 ∷ 0 ∷ 0 ∷ 0 ∷ 255 ∷ 255 ∷ 255 ∷ 255 ∷ []) ∷ [])
+    (written (1 ∷ 0 ∷ 0 ∷ 0 ∷ 0 ∷ 0 ∷ 0 ∷ 0 ∷ 255 ∷ 0 ∷ 0 ∷ 0 ∷ 0 ∷ 0 ∷ 255 ∷ 255 ∷ 255 ∷ 255 ∷ 8 ∷ []) ∷ [])
     ∷ after (state 1 ∷ state 2 ∷ section 1 50 ∷ curve 1 0 0 40 0 ∷ atSpeed 3056 0 ∷ [])
-    (written (2 ∷ 0 ∷ 0 ∷ 0 ∷ 0 ∷ 0 ∷ 0 ∷ 0 ∷ 255 ∷ 0 ∷ 0 ∷ 0 ∷ 0 ∷ 0 ∷ 255 ∷ 255 ∷ 255 ∷ 255 ∷ []) ∷ [])
+    (written (2 ∷ 0 ∷ 0 ∷ 0 ∷ 0 ∷ 0 ∷ 0 ∷ 0 ∷ 255 ∷ 0 ∷ 0 ∷ 0 ∷ 0 ∷ 0 ∷ 255 ∷ 255 ∷ 255 ∷ 255 ∷ 8 ∷ []) ∷ [])
     ∷ after (stop 1 ∷ section 1 50 ∷ curve 1 0 0 40 0 ∷ atSpeed 3056 0 ∷ state 1 ∷ state 2 ∷ state 3 ∷ [])
-    (written (3 ∷ 0 ∷ 0 ∷ 0 ∷ 0 ∷ 98 ∷ 0 ∷ 98 ∷ 255 ∷ 0 ∷ 0 ∷ 0 ∷ 0 ∷ 0 ∷ 255 ∷ 255 ∷ 255 ∷ 255 ∷ []) ∷ [])
+    (written (3 ∷ 0 ∷ 0 ∷ 0 ∷ 0 ∷ 98 ∷ 0 ∷ 98 ∷ 255 ∷ 0 ∷ 0 ∷ 0 ∷ 0 ∷ 0 ∷ 255 ∷ 255 ∷ 255 ∷ 255 ∷ 8 ∷ []) ∷ [])
     ∷ []
 
 -- ---- rolling
@@ -366,14 +369,14 @@ orderCases =
 abbrev pub emergencyCases : List Case
 emergencyCases =
     after (again halts ∷ []) (stateIs 3 ∷ causesAre (5 ∷ []) ∷ messages 0 ∷ [])
-    ∷ after (halts ∷ []) (written (4 ∷ 3 ∷ 0 ∷ 0 ∷ 0 ∷ 0 ∷ 0 ∷ 0 ∷ 255 ∷ 0 ∷ 0 ∷ 0 ∷ 2 ∷ 0 ∷ 255 ∷ 255 ∷ 255 ∷ 255 ∷ []) ∷ [])
+    ∷ after (halts ∷ []) (written (4 ∷ 3 ∷ 0 ∷ 0 ∷ 0 ∷ 0 ∷ 0 ∷ 0 ∷ 255 ∷ 0 ∷ 0 ∷ 0 ∷ 2 ∷ 0 ∷ 255 ∷ 255 ∷ 255 ∷ 255 ∷ 8 ∷ []) ∷ [])
     ∷ after (withPressure 881 ∷ []) (stateIs 4 ∷ [])
     ∷ after (withPressure 880 ∷ []) (stateIs 3 ∷ messages 0 ∷ [])
     ∷ after (withPressure 880 ∷ halts ∷ halts ∷ []) (stateIs 3 ∷ [])
     -- a second emergency cause begins nothing
     ∷ after (stop 1 ∷ halts ∷ []) (stateIs 4 ∷ [])
     -- "Outside DA order is 0 (FA: 3)": ordered by 02
-    ∷ after (state 4 ∷ []) (written (4 ∷ 3 ∷ 0 ∷ 0 ∷ 0 ∷ 0 ∷ 0 ∷ 0 ∷ 255 ∷ 0 ∷ 0 ∷ 0 ∷ 0 ∷ 0 ∷ 255 ∷ 255 ∷ 255 ∷ 255 ∷ []) ∷ [])
+    ∷ after (state 4 ∷ []) (written (4 ∷ 3 ∷ 0 ∷ 0 ∷ 0 ∷ 0 ∷ 0 ∷ 0 ∷ 255 ∷ 0 ∷ 0 ∷ 0 ∷ 0 ∷ 0 ∷ 255 ∷ 255 ∷ 255 ∷ 255 ∷ 8 ∷ []) ∷ [])
     ∷ []
 
 -- after 30, 2, a full order, and a report
@@ -428,7 +431,7 @@ settlingCases =
     ∷ after (withPressure 1041 ∷ state 3 ∷ []) (refused 11 ∷ [])
     -- "TRYCKGIVARFEL at the last odometer report": "Below −50", "Above 955"; FF9C is −50 kPa, FF9B is −50.5
     ∷ after (withPressure 1910 ∷ []) (messages 0 ∷ [])
-    ∷ after (withPressure 1911 ∷ []) (written (0 ∷ 0 ∷ 0 ∷ 0 ∷ 0 ∷ 0 ∷ 0 ∷ 0 ∷ 255 ∷ 0 ∷ 0 ∷ 0 ∷ 4 ∷ 0 ∷ 255 ∷ 255 ∷ 255 ∷ 255 ∷ []) ∷ [])
+    ∷ after (withPressure 1911 ∷ []) (written (0 ∷ 0 ∷ 0 ∷ 0 ∷ 0 ∷ 0 ∷ 0 ∷ 0 ∷ 255 ∷ 0 ∷ 0 ∷ 0 ∷ 4 ∷ 0 ∷ 255 ∷ 255 ∷ 255 ∷ 255 ∷ 8 ∷ []) ∷ [])
     ∷ after (withPressure 0xFF9C ∷ []) (messages 0 ∷ [])
     ∷ after (withPressure 0xFF9B ∷ []) (messages 4 ∷ [])
     ∷ after (withPressure 1911 ∷ state 1 ∷ []) (stateIs 1 ∷ messages 4 ∷ [])
@@ -601,12 +604,12 @@ placeCases =
 abbrev pub firstCases : List Case
 firstCases =
     -- 1 before 2, 3, 4 and 5
-    after (withArea 17 slowTrain ∷ []) (refused 1 ∷ [])
-    ∷ after (withArea 19 slowTrain ∷ []) (refused 1 ∷ [])
-    ∷ after (withArea 17 (bytes []) ∷ []) (refused 1 ∷ [])
+    after (withArea 18 slowTrain ∷ []) (refused 1 ∷ [])
+    ∷ after (withArea 20 slowTrain ∷ []) (refused 1 ∷ [])
+    ∷ after (withArea 18 (bytes []) ∷ []) (refused 1 ∷ [])
     ∷ after (withArea 0 (bytes (0x7F ∷ [])) ∷ []) (refused 1 ∷ [])
-    ∷ after (withArea 19 (bytes (0x02 ∷ [])) ∷ []) (refused 1 ∷ [])
-    ∷ after (withArea 17 (state 1) ∷ []) (refused 1 ∷ [])
+    ∷ after (withArea 20 (bytes (0x02 ∷ [])) ∷ []) (refused 1 ∷ [])
+    ∷ after (withArea 18 (state 1) ∷ []) (refused 1 ∷ [])
     -- 2; 3; 4 before 5
     ∷ after (bytes [] ∷ []) (refused 2 ∷ [])
     ∷ after (bytes (0x7F ∷ []) ∷ []) (refused 3 ∷ [])
@@ -681,7 +684,7 @@ laterCases =
     ∷ after (state 3 ∷ again (state 3) ∷ []) (answer 100 ∷ stateIs 3 ∷ [])
     ∷ after (curve 7 0 1000 40 0 ∷ curveEnd 7 ∷ again (curveEnd 7) ∷ []) (answer 100 ∷ [])
     ∷ after (section 7 90 ∷ sectionEnd 7 ∷ again (sectionEnd 7) ∷ []) (answer 100 ∷ [])
-    ∷ after (withArea 17 (again (state 2)) ∷ []) (refused 1 ∷ [])
+    ∷ after (withArea 18 (again (state 2)) ∷ []) (refused 1 ∷ [])
     -- the same report, again and again; the number, or a byte, of another
     ∷ after (state 3 ∷ stop 1 ∷ again (stop 1) ∷ again (stop 1) ∷ []) (answer 100 ∷ causesAre (6 ∷ 7 ∷ []) ∷ vmax 40 ∷ [])
     ∷ after (state 1 ∷ state 2 ∷ again (again (state 1)) ∷ []) (refused 7 ∷ [])
@@ -700,7 +703,7 @@ laterCases =
 abbrev pub testCases : List Case
 testCases =
     -- "At the report that settles it, full service is ordered with no cause bit", with flag bit 0 too; ground alone does not matter
-    after (halts ∷ []) (written (0 ∷ 2 ∷ 0 ∷ 0 ∷ 0 ∷ 0 ∷ 0 ∷ 0 ∷ 255 ∷ 0 ∷ 0 ∷ 0 ∷ 8 ∷ 0 ∷ 255 ∷ 255 ∷ 255 ∷ 255 ∷ []) ∷ [])
+    after (halts ∷ []) (written (0 ∷ 2 ∷ 0 ∷ 0 ∷ 0 ∷ 0 ∷ 0 ∷ 0 ∷ 255 ∷ 0 ∷ 0 ∷ 0 ∷ 8 ∷ 0 ∷ 255 ∷ 255 ∷ 255 ∷ 255 ∷ 8 ∷ []) ∷ [])
     ∷ after (report 0 1200 0 1000 0 ∷ []) (order 2 ∷ messages 8 ∷ [])
     -- "30 reports within 20 kPa": 480 settles it at 500, 479.5 does not; nor does a drop of 60 before it
     ∷ after (withPressure 960 ∷ []) (order 2 ∷ messages 8 ∷ [])
@@ -791,6 +794,65 @@ testedCases =
     ∷ after (approaches 0 35824 1000 0) (shows 1 7 2 4 ∷ [])
     ∷ []
 
+-- ---- areas (02, F-6)
+
+-- 48 m, report by report, and so many cm more
+abbrev pub past48m : ℕ → List Command
+past48m ground = travels 1200 ∷ travels 1200 ∷ travels 1200 ∷ travels 1200 ∷ travels ground ∷ []
+
+-- a train of 300 km/h in DA
+abbrev pub areaCases : List Case
+areaCases =
+    -- "Fully equipped is the area after start"
+    after (halts ∷ []) (area 8 ∷ vmax 300 ∷ [])
+    -- "130 if none was passed", in the partial area only; 50 adds no cause before the next report: 140 km/h is 3,889
+    ∷ after (atSpeed 3889 0 ∷ event 2 0 ∷ []) (area 4 ∷ vmax 130 ∷ permitted 130 ∷ causesAre [] ∷ [])
+    ∷ after (atSpeed 3889 0 ∷ event 2 0 ∷ atSpeed 3889 0 ∷ []) (causesAre (0 ∷ []) ∷ order 1 ∷ [])
+    ∷ after (event 4 0 ∷ []) (area 7 ∷ vmax 300 ∷ [])
+    ∷ after (event 5 0 ∷ []) (area 9 ∷ vmax 300 ∷ [])
+    ∷ after (event 4 0 ∷ event 1 90 ∷ []) (area 4 ∷ vmax 90 ∷ permitted 90 ∷ [])
+    ∷ after (event 4 0 ∷ event 1 90 ∷ event 4 0 ∷ []) (area 7 ∷ vmax 300 ∷ [])
+    ∷ after (event 4 0 ∷ event 1 90 ∷ event 5 0 ∷ []) (area 9 ∷ vmax 300 ∷ [])
+    ∷ after (event 4 0 ∷ event 1 90 ∷ event 6 0 ∷ []) (area 8 ∷ vmax 300 ∷ [])
+    -- "the last GMD speed of this stay": up and down; of no earlier one
+    ∷ after (event 2 0 ∷ event 1 200 ∷ []) (area 4 ∷ vmax 200 ∷ [])
+    ∷ after (event 4 0 ∷ event 1 90 ∷ event 1 80 ∷ []) (vmax 80 ∷ [])
+    ∷ after (event 4 0 ∷ event 1 90 ∷ event 4 0 ∷ event 0 0 ∷ []) (area 4 ∷ vmax 130 ∷ [])
+    -- "An entering GMD deletes the sections", ending ones too; one inside, and the other events, delete none
+    ∷ after (section 6 80 ∷ section 7 70 ∷ sectionEnd 7 ∷ event 4 0 ∷ event 1 90 ∷ []) (vmax 90 ∷ [])
+    ∷ after (section 6 80 ∷ event 4 0 ∷ event 1 90 ∷ sectionEnd 6 ∷ []) (refused 12 ∷ [])
+    ∷ after (event 2 0 ∷ section 6 80 ∷ event 1 90 ∷ []) (area 4 ∷ vmax 80 ∷ [])
+    ∷ after (section 6 80 ∷ event 2 0 ∷ []) (vmax 80 ∷ [])
+    ∷ after (section 6 80 ∷ event 4 0 ∷ event 0 0 ∷ event 5 0 ∷ event 6 0 ∷ []) (area 8 ∷ vmax 80 ∷ [])
+    -- "d once 50 m are covered since the first such group"; the area changes before that report's VMAX
+    ∷ after (event 3 0 ∷ []) (area 8 ∷ vmax 300 ∷ [])
+    ∷ after (event 3 0 ∷ past48m 199) (area 8 ∷ vmax 300 ∷ [])
+    ∷ after (event 3 0 ∷ past48m 200) (area 4 ∷ vmax 130 ∷ [])
+    ∷ after (event 3 0 ∷ past48m 199 ++ (report 3889 1 0 1000 0 ∷ [])) (area 4 ∷ vmax 130 ∷ causesAre (0 ∷ []) ∷ [])
+    ∷ after (event 3 0 ∷ past48m 199 ++ (again (travels 199) ∷ [])) (answer 100 ∷ area 8 ∷ [])
+    ∷ after (event 3 0 ∷ past48m 100 ++ (event 3 0 ∷ travels 99 ∷ [])) (area 8 ∷ [])
+    ∷ after (event 3 0 ∷ past48m 100 ++ (event 3 0 ∷ travels 100 ∷ [])) (area 4 ∷ [])
+    ∷ after (past48m 200 ++ (event 3 0 ∷ travels 100 ∷ [])) (area 8 ∷ [])
+    -- a refused event leaves them pending; a change of area and CS end them
+    ∷ after (event 3 0 ∷ past48m 100 ++ (event 0 0 ∷ travels 100 ∷ [])) (area 4 ∷ [])
+    ∷ after (event 3 0 ∷ past48m 100 ++ (event 4 0 ∷ event 6 0 ∷ travels 100 ∷ [])) (area 8 ∷ [])
+    ∷ after (event 3 0 ∷ past48m 100 ++ (event 2 0 ∷ travels 100 ∷ [])) (area 4 ∷ [])
+    ∷ after (event 3 0 ∷ past48m 100 ++ (state 1 ∷ state 2 ∷ travels 100 ∷ [])) (stateIs 2 ∷ area 8 ∷ [])
+    -- ground counts in HS too, and not before CS is left
+    ∷ after (state 1 ∷ state 2 ∷ event 3 0 ∷ past48m 199 ++ (state 3 ∷ travels 1 ∷ [])) (stateIs 3 ∷ area 4 ∷ [])
+    -- "CS keeps the area", and the speed of the stay; a start does not
+    ∷ after (event 4 0 ∷ event 1 90 ∷ state 1 ∷ []) (stateIs 1 ∷ area 4 ∷ vmax 0 ∷ [])
+    ∷ after (event 4 0 ∷ event 1 90 ∷ state 1 ∷ state 2 ∷ state 3 ∷ []) (area 4 ∷ vmax 90 ∷ [])
+    ∷ after (event 4 0 ∷ state 4 ∷ []) (stateIs 4 ∷ order 3 ∷ area 7 ∷ [])
+    ∷ after (event 4 0 ∷ fastTrain ∷ []) (stateIs 0 ∷ area 8 ∷ [])
+    -- 9 before 10 and 16; 10 before 16; for a repeat 16 would apply
+    ∷ after (event 0 1 ∷ []) (refused 9 ∷ [])
+    ∷ after (state 1 ∷ event 1 9 ∷ []) (refused 9 ∷ [])
+    ∷ after (state 1 ∷ event 0 0 ∷ []) (refused 10 ∷ [])
+    ∷ after (event 0 0 ∷ []) (refused 16 ∷ [])
+    ∷ after (event 2 0 ∷ again (event 2 0) ∷ []) (answer 100 ∷ area 4 ∷ vmax 130 ∷ [])
+    ∷ []
+
 -- ---- all of them
 
 -- the cases of a unit that further commands lead to
@@ -815,7 +877,7 @@ slowInDA stm =
 
 abbrev pub fastInDA : Stm → List Bool
 fastInDA stm =
-    map (holds stm) (orderCases ++ softCases)
+    map (holds stm) (orderCases ++ softCases ++ areaCases)
     ++ holdAfter stm (replicate 3 (tooFast 1000)) serviceCases
     ++ holdAfter stm (atSpeed 2500 0 ∷ baliseError ∷ halts ∷ halts ∷ []) errorCases
     ++ holdAfter stm (stop 0 ∷ halts ∷ []) emergencyCases

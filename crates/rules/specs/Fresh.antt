@@ -1,10 +1,13 @@
--- What a start and entering a state leave (01, "Answers", last paragraph). Proved in proofs/.
+-- What a start and entering a state leave (01, "Answers", last paragraph; 02, F-6). Proved in proofs/.
 use mathlib.Core.Path.{_≡_}
 use Prim.Native.Nat.{ℕ}
 use mathlib.Core.Bool.{true, false, _&&_, _||_}
 use Rattle.wire.specs.Form.{operandsOf}
 use Rattle.pressure.specs.Convert.{kPa}
 use Rattle.pressure.specs.declared.Phase.{Phase}
+use Rattle.areas.specs.declared.Area.{Area}
+use Rattle.areas.specs.declared.LineSpeed.{LineSpeed}
+use Rattle.areas.specs.declared.Overlap.{Overlap}
 use Rattle.rules.specs.Numbers.{isAccepted}
 use Rattle.rules.specs.Operands.{trainOf}
 use Rattle.rules.specs.Table.{stands}
@@ -20,11 +23,12 @@ use Rattle.rules.specs.declared.Stage.{Stage}
 use Rattle.rules.specs.declared.Verdict.{Verdict}
 use Rattle.rules.specs.declared.Stm.{Stm}
 
--- no curve, no section, no 40; no cause, nothing noted, no hold, no check begun, nothing rolled, no brake fault
+-- no curve, no section, no 40, no pending 50 m; no cause, nothing noted, no hold, no check begun, nothing rolled, no brake fault
 pub record HoldsNothing (stm : Stm) : Type 0 where
   pub curves : (place : ℕ) → curveAt place stm .held ≡ false
   pub sections : (place : ℕ) → sectionAt place stm .held ≡ false
   pub forty : stm .track .forty ≡ false
+  pub overlap : stm .track .stay .overlap ≡ Overlap.Present
   pub causes : (cause : Cause) → stands (stm .brakes .causes) cause ≡ false
   pub aimed : stm .brakes .since .aimed ≡ false
   pub unexpected : stm .brakes .since .unexpected ≡ false
@@ -40,6 +44,9 @@ pub record HoldsNothing (stm : Stm) : Type 0 where
 pub record IsFresh (stm : Stm) : Type 0 where
   pub state : isIn State.DE stm ≡ true
   pub nothing : HoldsNothing stm
+  -- 02, F-6: "Fully equipped is the area after start"
+  pub area : stm .track .stay .area ≡ Area.Full
+  pub line : stm .track .stay .line ≡ LineSpeed.Dark
   pub phase : stm .feedback .phase ≡ Phase.Waiting
   pub pressure : stm .feedback .pressures .pressure ≡ kPa 0
   pub reference : stm .feedback .pressures .reference ≡ kPa 0
@@ -60,13 +67,16 @@ StartIsFresh =
     × (stateAfter stm x .control .started ≡ true)
     × (stateAfter stm x .train ≡ trainOf (operandsOf (x .command)))
 
--- "Entering CS drops curves, sections, causes, their counters and the 40 of an unexpected stop, but nothing of the feedback"; entering
--- another state leaves them all
+-- "Entering CS drops curves, sections, causes, their counters and the 40 of an unexpected stop, but nothing of the feedback"; 02, F-6:
+-- "CS keeps the area", and the speed of the stay; entering another state leaves them all
 abbrev pub EnteringCS : Type 0
 EnteringCS =
     (stm : Stm) (x : Sent)
     → isAccepted (answerTo stm x) ≡ true → isOf Code.ChangeState (x .command) ≡ true
-    → (firstOperand (x .command) ≡ 1 → HoldsNothing (stateAfter stm x))
+    → (firstOperand (x .command) ≡ 1
+    → HoldsNothing (stateAfter stm x)
+    × (stateAfter stm x .track .stay .area ≡ stm .track .stay .area)
+    × (stateAfter stm x .track .stay .line ≡ stm .track .stay .line))
     × ((firstOperand (x .command) ≡ 1 → ⊥)
     → (stateAfter stm x .track ≡ stm .track) × (stateAfter stm x .brakes ≡ stm .brakes))
 

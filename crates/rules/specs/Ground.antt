@@ -9,7 +9,7 @@ use lib.ListN.{replicate}
 use Rattle.curve.specs.declared.Curve.{Curve}
 use Rattle.rules.specs.Numbers.{isAccepted}
 use Rattle.rules.specs.Runs.{Sent, answerTo, stateAfter, stateAtEnd, noneAccepted, isOf, freshens}
-use Rattle.rules.specs.History.{firstOperand, groundOver, curveAt, sectionAt}
+use Rattle.rules.specs.History.{firstOperand, entersByGmd, groundOver, curveAt, sectionAt}
 use Rattle.rules.specs.declared.Code.{Code}
 use Rattle.rules.specs.declared.Section.{Section}
 use Rattle.rules.specs.declared.Stm.{Stm}
@@ -43,12 +43,16 @@ CurveLosesGround =
 
 -- ---- sections
 
--- a section of which no accepted 22 or 23 tells stays as it is,
+-- a section is left alone by every command but a start, CS, a 22 or 23 with its id and, by 02, F-6, an entering GMD
+abbrev pub touchesSection : ℕ → Stm → List ℕ → Bool
+touchesSection id before command = freshens command || namesSection id command || entersByGmd before command
+
+-- one that no accepted command touches stays as it is,
 abbrev pub SectionStays : Type 0
 SectionStays =
     (stm : Stm) (xs : List Sent) (place : ℕ)
     → sectionAt place stm .held ≡ true → sectionAt place stm .ending ≡ false
-    → noneAccepted (λ before command. freshens command || namesSection (sectionAt place stm .id) command) stm xs ≡ true
+    → noneAccepted (touchesSection (sectionAt place stm .id)) stm xs ≡ true
     → sectionAt place (stateAtEnd stm xs) ≡ sectionAt place stm
 
 -- an ending one "until the ground moved since reaches the train's length": below it the section is held, with that ground,
@@ -65,7 +69,7 @@ SectionEndsOverGround =
     (stm : Stm) (xs : List Sent) (place : ℕ)
     → sectionAt place stm .held ≡ true → sectionAt place stm .ending ≡ true
     → sectionAt place stm .ground < 100 * stm .train .length
-    → noneAccepted (λ before command. freshens command || namesSection (sectionAt place stm .id) command) stm xs ≡ true
+    → noneAccepted (touchesSection (sectionAt place stm .id)) stm xs ≡ true
     → (sectionAt place stm .ground + groundOver stm xs < 100 * stm .train .length
     → EndsWith (sectionAt place stm .ground + groundOver stm xs) (sectionAt place stm) (sectionAt place (stateAtEnd stm xs)))
     × (100 * stm .train .length ≤ sectionAt place stm .ground + groundOver stm xs
@@ -73,7 +77,8 @@ SectionEndsOverGround =
 
 -- ---- free places
 
--- a place that holds no curve, or no section, stays as it is until a new one comes: reports neither move it nor note it
+-- a place that holds no curve, or no section, stays as it is until a new one comes: reports neither move it nor note it. (An entering
+-- GMD makes it a free one: see AreaRuns)
 abbrev pub FreePlacesStay : Type 0
 FreePlacesStay =
     (stm : Stm) (xs : List Sent) (place : ℕ)
@@ -81,7 +86,7 @@ FreePlacesStay =
     → noneAccepted (λ before command. freshens command || isOf Code.NewCurve command) stm xs ≡ true
     → curveAt place (stateAtEnd stm xs) ≡ curveAt place stm)
     × (sectionAt place stm .held ≡ false
-    → noneAccepted (λ before command. freshens command || isOf Code.NewSection command) stm xs ≡ true
+    → noneAccepted (λ before command. freshens command || isOf Code.NewSection command || entersByGmd before command) stm xs ≡ true
     → sectionAt place (stateAtEnd stm xs) ≡ sectionAt place stm)
 
 -- ---- reports sent again

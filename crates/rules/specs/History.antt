@@ -3,7 +3,7 @@
 -- the state that it finds.
 use Prim.Native.Nat.{ℕ, _+_, _*_}
 use mathlib.Core.Path.{_≡_}
-use mathlib.Core.Bool.{Bool, true, cond, _&&_, _||_}
+use mathlib.Core.Bool.{Bool, true, cond, not, _&&_, _||_}
 use mathlib.Core.List.{List, [], _∷_, foldr, List·Memᴰ}
 use lib.Dec.{eqb}
 use lib.Ieee.{Float, binary32, sub}
@@ -17,6 +17,7 @@ use Rattle.curve.specs.declared.Braking.{Braking}
 use Rattle.curve.specs.declared.Interval.{Interval}
 use Rattle.curve.specs.Lead.{leadsOf}
 use Rattle.interval.specs.Intervals.{intervalOf}
+use Rattle.areas.specs.Numbers.{areaNumber}
 use Rattle.rules.specs.Numbers.{isAccepted, isState}
 use Rattle.rules.specs.Operands.{twoAt, bitOf}
 use Rattle.rules.specs.Places.{freeCurve, freeSection}
@@ -32,7 +33,7 @@ Tells test fact = (test ≡ true → fact) × (fact → test ≡ true)
 
 -- ---- the bytes of a command ("Commands")
 
--- the first operand: the id of 20 to 23, which stop of 30
+-- the first operand: the id of 20 to 23, which stop of 30, the event of 50
 abbrev pub firstOperand : List ℕ → ℕ
 firstOperand command = byteAt (operandsOf command) 0
 
@@ -84,6 +85,20 @@ isBraking stm command =
 -- "command 30" with this operand
 abbrev pub passesStop : ℕ → List ℕ → Bool
 passesStop which command = isOf Code.StopPassed command && eqb (firstOperand command) which
+
+-- 02, F-6: the digit of the area that the unit is in; "command 50" with this event, and its speed
+abbrev pub areaIs : Stm → ℕ
+areaIs stm = areaNumber (stm .track .stay .area)
+
+abbrev pub passesEvent : ℕ → List ℕ → Bool
+passesEvent event command = isOf Code.AreaEvent command && eqb (firstOperand command) event
+
+abbrev pub eventSpeedOf : List ℕ → ℕ
+eventSpeedOf command = twoAt (operandsOf command) 1
+
+-- "An entering GMD": one outside the partial area
+abbrev pub entersByGmd : Stm → List ℕ → Bool
+entersByGmd stm command = passesEvent 1 command && not (eqb (areaIs stm) 4)
 
 -- ---- lists of commands
 

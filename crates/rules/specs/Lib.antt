@@ -32,6 +32,7 @@ pub mod Units
 pub mod Changes
 pub mod TwoRuns
 pub mod TestRuns
+pub mod AreaRuns
 pub mod Figures
 pub mod Pairs
 pub mod Tables

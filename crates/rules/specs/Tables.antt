@@ -11,7 +11,7 @@ use lib.ListN.{take, drop, replicate}
 use Rattle.wire.specs.Numbers.{number}
 use Rattle.wire.specs.Bytes.{sameBytes}
 use Rattle.wire.specs.Form.{operandsOf}
-use Rattle.wire.specs.Report.{stateIn}
+use Rattle.wire.specs.Report.{stateIn, areaIn}
 use Rattle.pressure.specs.declared.Feed.{Feed}
 use Rattle.curve.specs.declared.Kind.{Kind}
 use Rattle.curve.specs.declared.Direction.{Direction}
@@ -95,6 +95,10 @@ baliseError = command 0x32 []
 abbrev pub testBrakes : Command
 testBrakes = command 0x40 []
 
+-- 02, F-6: event, speed
+abbrev pub event : ℕ → ℕ → Command
+event which speed = command 0x50 (which ∷ two speed [])
+
 -- ---- units that commands lead to
 
 -- "numbered one more than the last accepted"
@@ -140,7 +144,7 @@ answerIn stm x = answerNumber (answerTo stm (sent stm x))
 -- ---- codes and lengths
 
 -- "Codes and whole lengths", the columns Code and Bytes: start, state, odometer, curve, curve end, section, section end, stop
--- passed, proceed signal, balise error; 02, F-3: "New command 40 (5 bytes)"
+-- passed, proceed signal, balise error; 02, F-3: "New command 40 (5 bytes)"; 02, F-6: "A command 50 .. (8 bytes)"
 abbrev pub lengths : List (ℕ × ℕ)
 lengths =
     (0x01, 24)
@@ -154,6 +158,7 @@ lengths =
     ∷ (0x31, 5)
     ∷ (0x32, 5)
     ∷ (0x40, 5)
+    ∷ (0x50, 8)
     ∷ []
 
 -- the answer before any start to so many bytes, the first with this value and the others 0
@@ -184,7 +189,7 @@ areNumbered numbered things numbers = sameBytes (map numbered things) numbers
 
 unfoldable pub numbersTold : List Bool
 numbersTold =
-    -- "0 accepted. 100 again", and the refusals 1 to 13 in their order; 02, F-3: 14 and 15
+    -- "0 accepted. 100 again", and the refusals 1 to 13 in their order; 02, F-3: 14 and 15; 02, F-6: 16
     areNumbered answerNumber
     (Answer.Accepted
     ∷ Answer.Again
@@ -203,8 +208,9 @@ numbersTold =
     ∷ Answer.AllHeld
     ∷ Answer.OutsideDE
     ∷ Answer.TestRunning
+    ∷ Answer.NotTaken
     ∷ [])
-    (0 ∷ 100 ∷ 1 ∷ 2 ∷ 3 ∷ 4 ∷ 5 ∷ 6 ∷ 7 ∷ 8 ∷ 9 ∷ 10 ∷ 11 ∷ 12 ∷ 13 ∷ 14 ∷ 15 ∷ [])
+    (0 ∷ 100 ∷ 1 ∷ 2 ∷ 3 ∷ 4 ∷ 5 ∷ 6 ∷ 7 ∷ 8 ∷ 9 ∷ 10 ∷ 11 ∷ 12 ∷ 13 ∷ 14 ∷ 15 ∷ 16 ∷ [])
     -- the codes, in the table's order
     ∷ areNumbered codeNumber
     (Code.Start
@@ -218,6 +224,7 @@ numbersTold =
     ∷ Code.Proceed
     ∷ Code.BaliseError
     ∷ Code.TestBrakes
+    ∷ Code.AreaEvent
     ∷ [])
     (map (λ row. row .0) lengths)
     ∷ areNumbered (λ row. codeNumber (codeOf (row .0))) lengths (map (λ row. row .0) lengths)
@@ -326,15 +333,15 @@ statesWritten =
 abbrev pub stateWritten : Stm → Command → ℕ
 stateWritten stm x = stateIn (momentOf stm (sent stm x) .area)
 
--- the eleven codes in each state: "20–23 and 31 want HS or DA, 30 and 32 want DA"; 02, F-3: "14, test asked outside DE"; 02 goes to
--- FA here
+-- the twelve codes in each state: "20–23 and 31 want HS or DA, 30 and 32 want DA"; 02, F-3: "14, test asked outside DE"; 02, F-6: "It
+-- wants HS or DA"; 02 goes to FA here
 abbrev pub taken : List (List ℕ)
 taken =
-    (0 ∷ 0 ∷ 0 ∷ 10 ∷ 10 ∷ 10 ∷ 10 ∷ 10 ∷ 10 ∷ 10 ∷ 0 ∷ [])
-    ∷ (0 ∷ 0 ∷ 0 ∷ 10 ∷ 10 ∷ 10 ∷ 10 ∷ 10 ∷ 10 ∷ 10 ∷ 14 ∷ [])
-    ∷ (0 ∷ 0 ∷ 0 ∷ 0 ∷ 0 ∷ 0 ∷ 0 ∷ 10 ∷ 0 ∷ 10 ∷ 14 ∷ [])
-    ∷ (0 ∷ 0 ∷ 0 ∷ 0 ∷ 0 ∷ 0 ∷ 0 ∷ 0 ∷ 0 ∷ 0 ∷ 14 ∷ [])
-    ∷ (0 ∷ 8 ∷ 8 ∷ 8 ∷ 8 ∷ 8 ∷ 8 ∷ 8 ∷ 8 ∷ 8 ∷ 8 ∷ [])
+    (0 ∷ 0 ∷ 0 ∷ 10 ∷ 10 ∷ 10 ∷ 10 ∷ 10 ∷ 10 ∷ 10 ∷ 0 ∷ 10 ∷ [])
+    ∷ (0 ∷ 0 ∷ 0 ∷ 10 ∷ 10 ∷ 10 ∷ 10 ∷ 10 ∷ 10 ∷ 10 ∷ 14 ∷ 10 ∷ [])
+    ∷ (0 ∷ 0 ∷ 0 ∷ 0 ∷ 0 ∷ 0 ∷ 0 ∷ 10 ∷ 0 ∷ 10 ∷ 14 ∷ 0 ∷ [])
+    ∷ (0 ∷ 0 ∷ 0 ∷ 0 ∷ 0 ∷ 0 ∷ 0 ∷ 0 ∷ 0 ∷ 0 ∷ 14 ∷ 0 ∷ [])
+    ∷ (0 ∷ 8 ∷ 8 ∷ 8 ∷ 8 ∷ 8 ∷ 8 ∷ 8 ∷ 8 ∷ 8 ∷ 8 ∷ 8 ∷ [])
     ∷ []
 
 abbrev pub eachCode : List Command
@@ -350,6 +357,7 @@ eachCode =
     ∷ proceed
     ∷ baliseError
     ∷ testBrakes
+    ∷ event 4 0
     ∷ []
 
 abbrev pub toStates : List Command
@@ -360,6 +368,41 @@ statesIn units =
     answersAre toStates paths units
     ++ zipWith (λ stm row. sameBytes (map (stateWritten stm) toStates) row) units statesWritten
     ++ answersAre eachCode taken units
+
+-- ---- areas (02, F-6)
+
+-- units in areas 7, 4, 9 and 8, led there from 8
+abbrev pub inAreas : Stm → List Stm
+inAreas stm = further stm (event 4 0 ∷ []) ∷ further stm (event 2 0 ∷ []) ∷ further stm (event 5 0 ∷ []) ∷ stm ∷ []
+
+-- events 0 to 6 in each: "rows a and b from 7, c and d from 8, e from 9", a GMD in 4, "4 to 6 .. from any other area"; else 16
+abbrev pub eventsTaken : List (List ℕ)
+eventsTaken =
+    (0 ∷ 0 ∷ 16 ∷ 16 ∷ 16 ∷ 0 ∷ 0 ∷ [])
+    ∷ (16 ∷ 0 ∷ 16 ∷ 16 ∷ 0 ∷ 0 ∷ 0 ∷ [])
+    ∷ (0 ∷ 16 ∷ 16 ∷ 16 ∷ 0 ∷ 16 ∷ 0 ∷ [])
+    ∷ (16 ∷ 16 ∷ 0 ∷ 0 ∷ 0 ∷ 0 ∷ 16 ∷ [])
+    ∷ []
+
+-- and the area that is written; row d waits for its 50 m; at a refusal the area keeps its 255
+abbrev pub areasWritten : List (List ℕ)
+areasWritten =
+    (4 ∷ 4 ∷ 255 ∷ 255 ∷ 255 ∷ 9 ∷ 8 ∷ [])
+    ∷ (255 ∷ 4 ∷ 255 ∷ 255 ∷ 7 ∷ 9 ∷ 8 ∷ [])
+    ∷ (4 ∷ 255 ∷ 255 ∷ 255 ∷ 7 ∷ 255 ∷ 8 ∷ [])
+    ∷ (255 ∷ 255 ∷ 4 ∷ 8 ∷ 7 ∷ 9 ∷ 255 ∷ [])
+    ∷ []
+
+abbrev pub eachEvent : List Command
+eachEvent = event 0 0 ∷ event 1 90 ∷ event 2 0 ∷ event 3 0 ∷ event 4 0 ∷ event 5 0 ∷ event 6 0 ∷ []
+
+abbrev pub areaWritten : Stm → Command → ℕ
+areaWritten stm x = areaIn (momentOf stm (sent stm x) .area)
+
+abbrev pub areasIn : Stm → List Bool
+areasIn stm =
+    answersAre eachEvent eventsTaken (inAreas stm)
+    ++ zipWith (λ unit row. sameBytes (map (areaWritten unit) eachEvent) row) (inAreas stm) areasWritten
 
 -- ---- where each operand lies
 
@@ -546,6 +589,10 @@ rangesIn stm =
     ++ map (rangeHolds stm (sectionEnd 6)) (range 0 1 (0 ∷ 254 ∷ []) (255 ∷ []) ∷ [])
     -- "30 stop passed": "0 aimed-at stop, 1 unexpected stop, 2 landslide board BSK"
     ++ map (rangeHolds stm (stop 0)) (range 0 1 (0 ∷ 1 ∷ 2 ∷ []) (3 ∷ 255 ∷ []) ∷ [])
+    -- 02, F-6: "0 .., 1 GMD, .., 4 to 6", "a two-byte speed, 10–300 for GMD, otherwise 0"
+    ++ map (rangeHolds stm (event 1 90)) (range 0 1 (1 ∷ []) (0 ∷ 2 ∷ []) ∷ range 1 2 (10 ∷ 300 ∷ []) (0 ∷ 9 ∷ 301 ∷ []) ∷ [])
+    ++ map (rangeHolds stm (event 4 0))
+    (range 0 1 (0 ∷ 2 ∷ 3 ∷ 4 ∷ 5 ∷ 6 ∷ []) (1 ∷ 7 ∷ 255 ∷ []) ∷ range 1 2 (0 ∷ []) (1 ∷ 10 ∷ 256 ∷ 300 ∷ []) ∷ [])
 
 -- ---- all of them
 
@@ -555,6 +602,8 @@ tablesFrom stm =
     statesIn (eachAfter stm intoStates)
     ++ operandsIn (further stm (state 1 ∷ state 2 ∷ []))
     ++ rangesIn (further stm (state 3 ∷ []))
+    ++ areasIn (further stm (state 1 ∷ state 2 ∷ []))
+    ++ areasIn (further stm (state 3 ∷ []))
 
 unfoldable pub tables : List Bool
 tables =

@@ -56,6 +56,8 @@ pub record TracksCompared (track track′ : Track) : Type 0 where
       → curve′ .past ≡ curve .past
   pub sections : (section : Section) → HoldsSection (track .sections) section → HoldsSection (track′ .sections) section
   pub forty : track′ .forty ≡ track .forty
+  -- 02, F-6: "Two units compared have one area", one pending ground and one GMD speed
+  pub stay : track′ .stay ≡ track .stay
 
 -- "save the last command's operands and the kept report, in which the second permits no more and orders no less"
 pub record LastsCompared (last last′ : Last) : Type 0 where
@@ -163,6 +165,23 @@ ClaimGiven units refusals service emergency gear stops tests =
 -- ground, the checks, the messages and T_EBCHK are equal
 abbrev pub TwoRuns : Type 0
 TwoRuns = ClaimGiven false true true true true true true
+
+-- 02, F-6: no odometer report parts the areas of two units compared: with all that is presumed, after every report the two have one
+-- area, one pending ground and one GMD speed
+abbrev pub OneArea : Moment → Moment → Type 0
+OneArea m n = n .stm .track .stay ≡ m .stm .track .stay
+
+abbrev pub AreasStayOne : Type 0
+AreasStayOne =
+    (u w : Stm) (xs ys : List Sent)
+    → Compared u w → Both Faster xs ys
+    → Both RefusedAlike (moments u xs) (moments w ys)
+    → Both NoServiceFault (moments u xs) (moments w ys)
+    → Both NoEmergencyFault (moments u xs) (moments w ys)
+    → Both InGear xs ys
+    → UnexpectedStopAlike u w
+    → NoTestRuns u
+    → Both OneArea (moments u xs) (moments w ys)
 
 -- ---- each presumption is needed, of units too
 

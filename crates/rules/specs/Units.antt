@@ -16,8 +16,13 @@ use Rattle.pressure.specs.Phases.{isSet}
 use Rattle.pressure.specs.Report.{freshFeedback}
 use Rattle.pressure.specs.Claims.{Each, afterAll, Agrees}
 use Rattle.curve.specs.declared.Curve.{Curve}
+use Rattle.areas.specs.declared.Area.{Area}
+use Rattle.areas.specs.declared.LineSpeed.{LineSpeed}
+use Rattle.areas.specs.declared.Overlap.{Overlap}
+use Rattle.areas.specs.declared.Stay.{Stay}
+use Rattle.areas.specs.Numbers.{isArea}
 use Rattle.rules.specs.Numbers.{isState}
-use Rattle.rules.specs.Operands.{trainInRange, curveInRange, sectionInRange}
+use Rattle.rules.specs.Operands.{within, trainInRange, curveInRange, sectionInRange}
 use Rattle.places.specs.Places.{places}
 use Rattle.rules.specs.Places.{allOf}
 use Rattle.rules.specs.Table.{anyStands, standsWith}
@@ -47,6 +52,19 @@ isGroundSound length section = cond (section .ending) (ltb (section .ground) (10
 
 abbrev pub isSectionSound : ℕ → Section → Bool
 isSectionSound length section = not (section .held) || sectionInRange section && isGroundSound length section
+
+-- 02, F-6: a GMD's speed is in range and was passed in this stay, in the partial area; the ground of a pending 50 m is below them, in the
+-- fully equipped area
+abbrev pub isLineSound : Area → LineSpeed → Bool
+isLineSound area LineSpeed.Dark = true
+isLineSound area (LineSpeed.Board speed) = isArea Area.Partial area && within 10 300 speed
+
+abbrev pub isOverlapSound : Area → Overlap → Bool
+isOverlapSound area Overlap.Present = true
+isOverlapSound area (Overlap.Missing ground) = isArea Area.Full area && ltb ground 5000
+
+abbrev pub isStaySound : Stay → Bool
+isStaySound stay = isLineSound (stay .area) (stay .line) && isOverlapSound (stay .area) (stay .overlap)
 
 -- ---- no id twice
 
@@ -118,6 +136,7 @@ pub record IsUnit (stm : Stm) : Type 0 where
   pub train : stm .control .started ≡ true → trainInRange (stm .train) ≡ true
   pub curves : allOf isCurveSound (stm .track .curves) ≡ true
   pub sections : allOf (isSectionSound (stm .train .length)) (stm .track .sections) ≡ true
+  pub stay : isStaySound (stm .track .stay) ≡ true
   pub speed : leb (stm .kept .speed) 10000 ≡ true
   pub feedback : Reached (stm .train) (stm .feedback)
   pub stage : StageSound (stm .train) (stm .control .state) (stm .test .stage)
