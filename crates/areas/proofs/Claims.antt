@@ -34,7 +34,7 @@ taken-numbers Area.Full = refl
 entered-number : (event : Event) → areaNumber (enteredBy event) ≡ enters (eventNumber event)
 entered-number = each (λ event. areaNumber (enteredBy event)) (λ event. enters (eventNumber event)) refl
 
-target-number : (area : Area) (event : Event) → isTaken area event ≡ true → areaNumber (targetOf area event) ≡ enters (eventNumber event)
+pub target-number : (area : Area) (event : Event) → isTaken area event ≡ true → areaNumber (targetOf area event) ≡ enters (eventNumber event)
 target-number area event t = ap areaNumber (target-by area event true t) ∙ entered-number event
 
 pub rows-are-told : RowsAreTold
@@ -47,7 +47,7 @@ rows-are-told area event = (
 -- ---- an event
 
 -- one that is followed at once
-followed : (event : Event) (speed : ℕ) (stay : Stay) → (eventNumber event ≡ 3 → ⊥)
+pub followed : (event : Event) (speed : ℕ) (stay : Stay) → (eventNumber event ≡ 3 → ⊥)
     → passedStay event speed stay ≡ begunStay (targetOf (stay .area) event) (lineBy event speed)
 unfolding passedStay
 followed event speed stay n = rw (ne-eqb (eventNumber event) 3 n)
@@ -84,17 +84,17 @@ entering-gmd-deletes event stay = refl
 
 -- while the 50 m pend, with this ground before
 module _ (line : LineSpeed) where
-  abbrev pends : ℕ → Stay
+  abbrev pub pends : ℕ → Stay
   pends ground = record { area = Area.Full; line = line; overlap = Overlap.Missing ground }
 
   abbrev entered : Stay
   entered = begunStay Area.Partial LineSpeed.Dark
 
-  covered-below : (ground moved : ℕ) → ground + moved < 5000 → coveredStay moved (pends ground) ≡ pends (ground + moved)
+  pub covered-below : (ground moved : ℕ) → ground + moved < 5000 → coveredStay moved (pends ground) ≡ pends (ground + moved)
   unfolding coveredStay
   covered-below ground moved h = rw (lt-leb 5000 (ground + moved) h)
 
-  covered-past : (ground moved : ℕ) → 5000 ≤ ground + moved → coveredStay moved (pends ground) ≡ entered
+  pub covered-past : (ground moved : ℕ) → 5000 ≤ ground + moved → coveredStay moved (pends ground) ≡ entered
   unfolding coveredStay
   covered-past ground moved h =
       rw (le-leb 5000 (ground + moved) h) (ap (λ to. begunStay to LineSpeed.Dark) (target-by Area.Full Event.NoOverlap true (taken-by Area.Full Event.NoOverlap)))

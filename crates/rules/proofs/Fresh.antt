@@ -36,7 +36,7 @@ use Rattle.rules.proofs.After.{control-after, train-after, track-after,
 
 -- ---- nothing held
 
-free-everywhere : {A : Type 0} (n i : ℕ) (free : A) → getD (replicate n free) i free ≡ free
+pub free-everywhere : {A : Type 0} (n i : ℕ) (free : A) → getD (replicate n free) i free ≡ free
 free-everywhere zero i free = refl
 free-everywhere (suc n) zero free = refl
 free-everywhere (suc n) (suc i) free = free-everywhere n i free

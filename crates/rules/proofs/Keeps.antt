@@ -143,7 +143,7 @@ given-speed s e g =
     ap (λ t. cond t (within 10 300 (eventSpeed s)) (eqb (eventSpeed s) 0)) (sym g)
     ∙ and-right (leb (byteAt s 0) 6) (eventSpeedInRange (eventIn s) (eventSpeed s)) e
 
-taken-there : (stm : Stm) (s : List ℕ) → isUntaken stm Code.AreaEvent s ≡ false → isTaken (stm .track .stay .area) (eventIn s) ≡ true
+pub taken-there : (stm : Stm) (s : List ℕ) → isUntaken stm Code.AreaEvent s ≡ false → isTaken (stm .track .stay .area) (eventIn s) ≡ true
 unfolding isUntaken
 taken-there stm s e = not-false (isTaken (stm .track .stay .area) (eventIn s)) e
 

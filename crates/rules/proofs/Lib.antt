@@ -37,6 +37,8 @@ pub mod UnitParts
 pub mod Reporting
 pub mod Keeps
 pub mod TestRuns
+pub mod Stays
+pub mod AreaRuns
 pub mod TestAlone
 pub mod Changes
 pub mod Monotone
