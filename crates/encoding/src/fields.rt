@@ -1,6 +1,9 @@
 // The operands of the commands and their ranges. Each is read at its place after the code and the number.
 ghost use mathlib.Core.Path.{_≡_};
-ghost use Rattle.rules.specs.Operands.{bitOf, within, feedOf, extraOf, trainOf, trainInRange, startInRange, readingOf, odometerInRange, kindOf, speedInRange, gradientOf, curveOf, curveInRange, newCurveInRange, sectionOf, sectionInRange, inRange};
+ghost use Rattle.rules.specs.Operands.{bitOf, within, feedOf, extraOf, trainOf, trainInRange, startInRange, readingOf, odometerInRange, kindOf, speedInRange, gradientOf, curveOf, curveInRange, newCurveInRange, sectionOf, sectionInRange, eventIn, eventSpeed, eventSpeedInRange, eventInRange, inRange};
+use areas::Event;
+use areas::event_of;
+use areas::is_event;
 use curve::Curve;
 use curve::Gradient;
 use curve::Kind;
@@ -196,6 +199,37 @@ fn section_in_range(section: Section) -> bool
     (section.id <= 254) & within(10, 300, section.speed)
 }
 
+// ---- 50 area event
+
+pub fn event_in(s: &[u8]) -> Event
+    ensures { λ r. ⌜ r ≡ eventIn (now (s .entry)) ⌝ }
+{
+    event_of(byte_at(s, 0))
+}
+
+pub fn event_speed(s: &[u8]) -> u16
+    ensures { λ r. ⌜ r ≡ eventSpeed (now (s .entry)) ⌝ }
+{
+    be16(s, 1)
+}
+
+// Only a GMD has a speed.
+fn event_speed_in_range(event: Event, speed: u16) -> bool
+    ensures { λ r. ⌜ r ≡ eventSpeedInRange event speed ⌝ }
+{
+    if is_event(Event::GMD, event) {
+        within(10, 300, speed)
+    } else {
+        speed == 0
+    }
+}
+
+fn event_in_range(s: &[u8]) -> bool
+    ensures { λ r. ⌜ r ≡ eventInRange (now (s .entry)) ⌝ }
+{
+    (byte_at(s, 0) <= 6) & event_speed_in_range(event_in(s), event_speed(s))
+}
+
 // ---- all commands
 
 // Whether every operand is in its range.
@@ -214,5 +248,6 @@ pub fn in_range(code: Code, s: &[u8]) -> bool
         Code::Proceed => true,
         Code::BaliseError => true,
         Code::TestBrakes => true,
+        Code::AreaEvent => event_in_range(s),
     }
 }

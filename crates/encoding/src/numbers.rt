@@ -28,6 +28,7 @@ pub fn answer_number(answer: Answer) -> u8
         Answer::AllHeld => 13,
         Answer::OutsideDE => 14,
         Answer::TestRunning => 15,
+        Answer::NotTaken => 16,
     }
 }
 
@@ -59,6 +60,7 @@ pub fn code_number(code: Code) -> u8
         Code::Proceed => 0x31,
         Code::BaliseError => 0x32,
         Code::TestBrakes => 0x40,
+        Code::AreaEvent => 0x50,
     }
 }
 
@@ -77,7 +79,8 @@ pub fn code_of(byte: u8) -> Code
         0x30 => Code::StopPassed,
         0x31 => Code::Proceed,
         0x32 => Code::BaliseError,
-        _ => Code::TestBrakes,
+        0x40 => Code::TestBrakes,
+        _ => Code::AreaEvent,
     }
 }
 

@@ -63,6 +63,12 @@ enum-told-10 c = search needs
 enum-told-11 : tie.Need-enum-told-11
 enum-told-11 c = search needs
 
+enum-told-12 : tie.Need-enum-told-12
+enum-told-12 c = search needs
+
+event-in-range-requires : tie.Need-event-in-range-requires
+event-in-range-requires c κs = tt
+
 returns : tie.Need-returns
 returns c = rw (c .start-in-range .ensures, c .before .enum-told .given .1)
 
@@ -96,6 +102,9 @@ returns-10 c = search needs
 returns-11 : tie.Need-returns-11
 returns-11 c = search needs
 
+returns-12 : tie.Need-returns-12
+returns-12 c = rw (c .event-in-range .ensures, c .before .enum-told12 .given .1)
+
 pub in-range-spec : {M : Type 1} → statement M
 in-range-spec =
     tie.close
@@ -120,6 +129,8 @@ in-range-spec =
     enum-told-9
     enum-told-10
     enum-told-11
+    enum-told-12
+    event-in-range-requires
     returns
     returns-2
     returns-3
@@ -130,4 +141,5 @@ in-range-spec =
     returns-8
     returns-9
     returns-10
-    returns-11)
+    returns-11
+    returns-12)
