@@ -1,12 +1,21 @@
 // The whole track, VMAX and the permitted speed.
 ghost use mathlib.Core.Path.{_≡_};
 ghost use Prim.Native.Nat.{min};
+ghost use mathlib.Core.Bool.{cond};
 ghost use mathlib.Core.List.{map, foldr};
-ghost use Rattle.rules.specs.Places.{freshTrack, withCurves, withSections, withForty, movedTrack};
+ghost use Rattle.rules.specs.Places.{noSections, emptyTrack, freshTrack, clearedTrack, withCurves, withSections, withForty, passedTrack, movedTrack};
 ghost use Rattle.rules.specs.Speeds.{brakingOf, judgedNow, sectionSpeed, stopSpeed, vmaxOf, permittedSpeed};
 use crate::curves::free_curve;
 use crate::sections::free_section;
 use crate::sections::move_sections;
+use areas::Event;
+use areas::Stay;
+use areas::area_speed;
+use areas::cleared_stay;
+use areas::covered_stay;
+use areas::deletes_sections;
+use areas::fresh_stay;
+use areas::passed_stay;
 use curve::Braking;
 use curve::Curve;
 use curve::Judged;
@@ -16,17 +25,39 @@ use rules::Section;
 use rules::Track;
 use rules::Train;
 
-// No curve, no section, no 40.
+fn no_sections() -> [Section; PLACES]
+    ensures { λ r. ⌜ r ≡ noSections ⌝ }
+{
+    let section = free_section();
+    [section; PLACES]
+}
+
+// No curve, no section, no 40, in this stay.
+fn empty_track(stay: Stay) -> Track
+    ensures { λ r. ⌜ r ≡ emptyTrack stay ⌝ }
+{
+    let curve = free_curve();
+    Track {
+        curves: [curve; PLACES],
+        sections: no_sections(),
+        forty: false,
+        stay,
+    }
+}
+
+// After a start.
 pub fn fresh_track() -> Track
     ensures { λ r. ⌜ r ≡ freshTrack ⌝ }
 {
-    let curve = free_curve();
-    let section = free_section();
-    Track {
-        curves: [curve; PLACES],
-        sections: [section; PLACES],
-        forty: false,
-    }
+    empty_track(fresh_stay())
+}
+
+// After CS is entered: the area is kept.
+pub fn cleared_track(track: Track) -> Track
+    ensures { λ r. ⌜ r ≡ clearedTrack track ⌝ }
+{
+    let stay = track.stay;
+    empty_track(cleared_stay(stay))
 }
 
 pub fn with_curves(track: Track, curves: [Curve; PLACES]) -> Track
@@ -53,16 +84,40 @@ pub fn with_forty(track: Track, forty: bool) -> Track
     next
 }
 
+// The sections that are left: none where all are deleted.
+fn sections_left(deleted: bool, sections: [Section; PLACES]) -> [Section; PLACES]
+    ensures { λ r. ⌜ r ≡ cond deleted noSections sections ⌝ }
+{
+    if deleted { no_sections() } else { sections }
+}
+
+// The track after an area event, with the command's speed.
+pub fn passed_track(event: Event, speed: u16, track: Track) -> Track
+    ensures { λ r. ⌜ r ≡ passedTrack event speed track ⌝ }
+{
+    let curves = track.curves;
+    let sections = track.sections;
+    let stay = track.stay;
+    Track {
+        curves,
+        sections: sections_left(deletes_sections(event, stay), sections),
+        forty: track.forty,
+        stay: passed_stay(event, speed, stay),
+    }
+}
+
 // The track after so many cm moved, of a train of this length in m.
 pub fn moved_track(length: u16, moved: u16, track: Track) -> Track
     ensures { λ r. ⌜ r ≡ movedTrack length moved track ⌝ }
 {
     let curves = track.curves;
     let sections = track.sections;
+    let stay = track.stay;
     Track {
         curves: places::move_all(curves, moved),
         sections: move_sections(length, moved, sections),
         forty: track.forty,
+        stay: covered_stay(moved, stay),
     }
 }
 
@@ -121,9 +176,13 @@ pub fn vmax_of(train: Train, track: Track) -> u16
     ensures { λ r. ⌜ r ≡ vmaxOf train track ⌝ }
 {
     let sections = track.sections;
+    let stay = track.stay;
     lower(
-        stop_speed(train.speed, track.forty),
-        least_speed(train.speed, sections),
+        area_speed(train.speed, stay),
+        lower(
+            stop_speed(train.speed, track.forty),
+            least_speed(train.speed, sections),
+        ),
     )
 }
 

@@ -9,9 +9,13 @@ move-all-requires c κs = tt
 move-sections-requires : tie.Need-move-sections-requires
 move-sections-requires c κs = tt
 
+covered-stay-requires : tie.Need-covered-stay-requires
+covered-stay-requires c κs = tt
+
 returns : tie.Need-returns
 unfolding movedTrack
-returns c = rw (c .move-sections .ensures, c .before .move-all .ensures)
+returns c = rw (c .covered-stay .ensures, c .before .move-sections .ensures, c .before .before .move-all .ensures)
 
 pub moved-track-spec : {M : Type 1} → statement M
-moved-track-spec = tie.close (tie.spec move-all-requires move-sections-requires returns)
+moved-track-spec =
+    tie.close (tie.spec move-all-requires move-sections-requires covered-stay-requires returns)
