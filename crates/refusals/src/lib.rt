@@ -1,4 +1,4 @@
-// The answer to every command: the refusals of 01 and of 02, F-3, in their order, and the repeat.
+// The answer to every command: the refusals of 01 and of 02, F-3 and F-6, in their order, and the repeat.
 //
 // No public function has a `requires`: each is defined at every value of its parameters.
 ghost use mathlib.Core.Path.{_≡_};
@@ -8,14 +8,17 @@ ghost use Prim.Native.Nat.{_+_};
 ghost use lib.Dec.{eqb};
 ghost use Rattle.wire.specs.Codes.{longest};
 ghost use Rattle.wire.specs.Bytes.{sameBytes};
+ghost use Rattle.areas.specs.Rows.{isTaken};
 ghost use Rattle.rules.specs.declared.Answer.{Answer};
 ghost use Rattle.rules.specs.declared.Code.{Code};
 ghost use Rattle.rules.specs.Numbers.{codeOf, isCode};
 ghost use Rattle.rules.specs.Places.{holdsCurve, allCurvesHeld, holdsSection, standsSection, allSectionsHeld};
-ghost use Rattle.rules.specs.Operands.{codeByte, numberOf};
+ghost use Rattle.rules.specs.Operands.{codeByte, numberOf, eventIn};
 ghost use Rattle.rules.specs.Commands.{padded};
 ghost use Rattle.rules.specs.Refusals.{isPath, isAllowed, ordersDA, rule, firstOf, rulesFor, answerFor, answerOf};
+use areas::is_taken;
 use brake_test::is_running;
+use encoding::fields::event_in;
 use encoding::fields::in_range;
 use encoding::numbers::code_of;
 use encoding::numbers::is_code;
@@ -96,6 +99,7 @@ fn is_allowed(state: State, code: Code, s: &[u8]) -> bool
         Code::Proceed => moving,
         Code::BaliseError => da,
         Code::TestBrakes => true,
+        Code::AreaEvent => moving,
     }
 }
 
@@ -135,6 +139,15 @@ fn finds_no_place(track: Track, code: Code, id: u8) -> bool
     false
 }
 
+// Whether an area event isn't taken in the area.
+fn is_untaken(track: Track, code: Code, s: &[u8]) -> bool
+    ensures { λ r. ⌜ r ≡ (isCode Code.AreaEvent code && not (isTaken (track .stay .area) (eventIn (now (s .entry))))) ⌝ }
+{
+    let stay = track.stay;
+    let area = stay.area;
+    is_code(Code::AreaEvent, code) & !is_taken(area, event_in(s))
+}
+
 // Which refusals from 5 on apply, and whether the command is a repeat.
 struct Tests {
     unstarted: bool,
@@ -149,11 +162,12 @@ struct Tests {
     full: bool,
     elsewhere: bool,
     running: bool,
+    untaken: bool,
 }
 
-// The first of 9 to 15 that applies.
+// The first of 9 to 16 that applies.
 fn later_of(t: Tests) -> Answer
-    ensures { λ r. ⌜ r ≡ firstOf (rule (t .outside) Answer.OutOfRange ∷ rule (t .forbidden) Answer.NotAllowed ∷ rule (t .unset) Answer.NoReference ∷ rule (t .absent) Answer.NotHeld ∷ rule (t .full) Answer.AllHeld ∷ rule (t .elsewhere) Answer.OutsideDE ∷ rule (t .running) Answer.TestRunning ∷ []) ⌝ }
+    ensures { λ r. ⌜ r ≡ firstOf (rule (t .outside) Answer.OutOfRange ∷ rule (t .forbidden) Answer.NotAllowed ∷ rule (t .unset) Answer.NoReference ∷ rule (t .absent) Answer.NotHeld ∷ rule (t .full) Answer.AllHeld ∷ rule (t .elsewhere) Answer.OutsideDE ∷ rule (t .running) Answer.TestRunning ∷ rule (t .untaken) Answer.NotTaken ∷ []) ⌝ }
 {
     if t.outside {
         return Answer::OutOfRange;
@@ -176,12 +190,15 @@ fn later_of(t: Tests) -> Answer
     if t.running {
         return Answer::TestRunning;
     }
+    if t.untaken {
+        return Answer::NotTaken;
+    }
     Answer::Accepted
 }
 
-// The first that applies: 5 to 8, the repeat, and 9 to 15.
+// The first that applies: 5 to 8, the repeat, and 9 to 16.
 fn first_of(t: Tests) -> Answer
-    ensures { λ r. ⌜ r ≡ firstOf (rule (t .unstarted) Answer.NotStarted ∷ rule (t .zero) Answer.ZeroNumber ∷ rule (t .misnumbered) Answer.WrongNumber ∷ rule (t .failed) Answer.Failed ∷ rule (t .again) Answer.Again ∷ rule (t .outside) Answer.OutOfRange ∷ rule (t .forbidden) Answer.NotAllowed ∷ rule (t .unset) Answer.NoReference ∷ rule (t .absent) Answer.NotHeld ∷ rule (t .full) Answer.AllHeld ∷ rule (t .elsewhere) Answer.OutsideDE ∷ rule (t .running) Answer.TestRunning ∷ []) ⌝ }
+    ensures { λ r. ⌜ r ≡ firstOf (rule (t .unstarted) Answer.NotStarted ∷ rule (t .zero) Answer.ZeroNumber ∷ rule (t .misnumbered) Answer.WrongNumber ∷ rule (t .failed) Answer.Failed ∷ rule (t .again) Answer.Again ∷ rule (t .outside) Answer.OutOfRange ∷ rule (t .forbidden) Answer.NotAllowed ∷ rule (t .unset) Answer.NoReference ∷ rule (t .absent) Answer.NotHeld ∷ rule (t .full) Answer.AllHeld ∷ rule (t .elsewhere) Answer.OutsideDE ∷ rule (t .running) Answer.TestRunning ∷ rule (t .untaken) Answer.NotTaken ∷ []) ⌝ }
 {
     if t.unstarted {
         return Answer::NotStarted;
@@ -234,6 +251,7 @@ fn judge(stm: Stm, command: &[u8], s: &[u8]) -> Answer
         full: finds_no_place(track, code, id),
         elsewhere: tests & !is_state(State::DE, state),
         running: tests & is_running(stage),
+        untaken: is_untaken(track, code, s),
     })
 }
 

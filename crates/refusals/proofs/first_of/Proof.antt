@@ -1,16 +1,15 @@
 -- `refusals::first_of` meets its contract.
-use borrow.Author.Needs.{needs}
 use Rattle.refusals.proofs.first_of.Statement.{statement}
 use Rattle.refusals.proofs.first_of.Tie as tie
 
 returns : tie.Need-returns
-returns c = search needs
+returns c = rw (c .if1 .taken)
 
 returns-2 : tie.Need-returns-2
-returns-2 c = search needs
+returns-2 c = rw (c .if2 .taken, c .before .if1 .left)
 
 returns-3 : tie.Need-returns-3
-returns-3 c = search needs
+returns-3 c = rw (c .if3 .taken, c .before .if2 .left, c .before .before .if1 .left)
 
 returns-4 : tie.Need-returns-4
 returns-4 c = rw (c .if4 .taken, c .before .if3 .left, c .before .before .if2 .left, c .before .before .before .if1 .left)

@@ -9,12 +9,13 @@ use Rattle.wire.specs.Codes.{longest}
 use Rattle.wire.specs.Numbers.{byteAt}
 use Rattle.wire.specs.Bytes.{sameBytes}
 use Rattle.pressure.specs.Phases.{isSet}
+use Rattle.areas.specs.Rows.{isTaken}
 use Rattle.rules.specs.Numbers.{codeOf, isCode, isState}
-use Rattle.rules.specs.Operands.{codeByte, numberOf, inRange}
+use Rattle.rules.specs.Operands.{codeByte, numberOf, eventIn, inRange}
 use Rattle.rules.specs.Places.{holdsCurve, allCurvesHeld, holdsSection, standsSection, allSectionsHeld}
 use Rattle.rules.specs.BrakeTest.{isRunning}
 use Rattle.rules.specs.Commands.{padded}
-use Rattle.rules.specs.Refusals.{isRepeat, isNext, isAllowed, ordersDA, endsNothing, findsNoPlace, testsOutside, testsTwice, rule, firstOf, rulesFor}
+use Rattle.rules.specs.Refusals.{isRepeat, isNext, isAllowed, ordersDA, endsNothing, findsNoPlace, testsOutside, testsTwice, isUntaken, rule, firstOf, rulesFor}
 use Rattle.rules.specs.declared.Answer.{Answer}
 use Rattle.rules.specs.declared.Code.{Code}
 use Rattle.rules.specs.declared.State.{State}
@@ -24,7 +25,7 @@ use Rattle.refusals.proofs.judge.Tie as tie
 
 -- the first rule that applies, by the values of the tests
 judged : (stm : Stm) (command s : List ℕ) {byte : ℕ} {code : Code} {id number : ℕ}
-    {start tests last next failed range allowed da set absent full de running : Bool} {answer : Answer}
+    {start tests last next failed range allowed da set absent full de running untaken : Bool} {answer : Answer}
     → byte ≡ byteAt command 0
     → code ≡ codeOf byte
     → id ≡ byteAt s 0
@@ -44,6 +45,7 @@ judged : (stm : Stm) (command s : List ℕ) {byte : ℕ} {code : Code} {id numbe
     || isCode Code.NewSection code && not (holdsSection id (stm .track .sections)) && allSectionsHeld (stm .track .sections))
     → de ≡ isState State.DE (stm .control .state)
     → running ≡ isRunning (stm .test .stage)
+    → untaken ≡ (isCode Code.AreaEvent code && not (isTaken (stm .track .stay .area) (eventIn s)))
     → answer ≡ firstOf
     (rule (not (stm .control .started) && not start) Answer.NotStarted
     ∷ rule (eqb number 0) Answer.ZeroNumber
@@ -57,11 +59,12 @@ judged : (stm : Stm) (command s : List ℕ) {byte : ℕ} {code : Code} {id numbe
     ∷ rule full Answer.AllHeld
     ∷ rule (tests && not de) Answer.OutsideDE
     ∷ rule (tests && running) Answer.TestRunning
+    ∷ rule untaken Answer.NotTaken
     ∷ [])
     → answer ≡ firstOf (rulesFor stm command (codeOf (codeByte command)) s)
-unfolding isRepeat isNext endsNothing findsNoPlace testsOutside testsTwice rulesFor
-judged stm command s e1 e2 e3 e4 e5 e6 e7 e8 e9 e10 e11 e12 e13 e14 e15 e16 e17 e18 =
-    rw (e18, e17, e16, e15, e14, e13, e12, e11, e10, e9, e8, e7, e6, e5, e4, e3, e2, e1)
+unfolding isRepeat isNext endsNothing findsNoPlace testsOutside testsTwice isUntaken rulesFor
+judged stm command s e1 e2 e3 e4 e5 e6 e7 e8 e9 e10 e11 e12 e13 e14 e15 e16 e17 e18 e19 =
+    rw (e19, e18, e17, e16, e15, e14, e13, e12, e11, e10, e9, e8, e7, e6, e5, e4, e3, e2, e1)
 
 byte-at-requires : tie.Need-byte-at-requires
 byte-at-requires c κs = tt
@@ -114,12 +117,15 @@ is-state-requires-2 c κs = tt
 is-running-requires : tie.Need-is-running-requires
 is-running-requires c κs = tt
 
+is-untaken-requires : tie.Need-is-untaken-requires
+is-untaken-requires c κs = tt
+
 first-of-requires : tie.Need-first-of-requires
 first-of-requires c κs = tt
 
 returns : tie.Need-returns
 returns c =
-    let o = c .before .before .before .before .before .before in
+    let o = c .before .before .before .before .before .before .before in
     let p = o .before .before .before .before .before .before in
     let q = p .before .before .before .before .before .before in
     judged (q .before .before .before .before .before .before .before .before .args .stm)
@@ -137,11 +143,12 @@ returns c =
     (o .before .before .in-range .ensures)
     (o .before .is-allowed .ensures)
     (o .orders-da .ensures)
-    (c .before .before .before .before .before .has-reference .ensures)
-    (c .before .before .before .before .ends-nothing .ensures)
-    (c .before .before .before .finds-no-place .ensures)
-    (c .before .before .is-state2 .ensures)
-    (c .before .is-running .ensures)
+    (c .before .before .before .before .before .before .has-reference .ensures)
+    (c .before .before .before .before .before .ends-nothing .ensures)
+    (c .before .before .before .before .finds-no-place .ensures)
+    (c .before .before .before .is-state2 .ensures)
+    (c .before .before .is-running .ensures)
+    (c .before .is-untaken .ensures)
     (c .first-of .ensures)
 
 pub judge-spec : {M : Type 1} → statement M
@@ -165,5 +172,6 @@ judge-spec =
     finds-no-place-requires
     is-state-requires-2
     is-running-requires
+    is-untaken-requires
     first-of-requires
     returns)
