@@ -4,6 +4,7 @@ use mathlib.Core.Path.{_≡_, refl, _∙_}
 use mathlib.Core.Bool.{true, false, cond}
 use mathlib.Core.List.{[], _∷_}
 use Rattle.curve.specs.Ground.{never}
+use Rattle.areas.specs.Numbers.{areaNumber}
 use Rattle.rules.specs.declared.State.{State}
 use Rattle.rules.specs.declared.Stage.{Stage}
 use Rattle.rules.specs.declared.Stm.{Stm}
@@ -42,6 +43,6 @@ module _ (stm : Stm) where
   pub report-elsewhere : isState State.DA (stm .control .state) ≡ false
       → reportOf stm
       ≡ fields (stateNumber (stm .control .state)) (orderOutside (stm .control .state) (stm .test .stage)) 0 0 0 (255 ∷ 0 ∷ 0 ∷ 0 ∷ [])
-      (messagesOf (stm .brakes) (stm .feedback) (stm .test)) 0 never
+      (messagesOf (stm .brakes) (stm .feedback) (stm .test)) 0 never (areaNumber (stm .track .stay .area))
   unfolding reportOf reportOutside
   report-elsewhere e = by-state (stm .control .state) stm ∙ rw e

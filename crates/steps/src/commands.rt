@@ -15,6 +15,8 @@ use brake_test::left_test;
 use brakes::release::brakes_by;
 use brakes::release::fresh_brakes;
 use encoding::fields::curve_of;
+use encoding::fields::event_in;
+use encoding::fields::event_speed;
 use encoding::fields::reading_of;
 use encoding::fields::section_of;
 use encoding::fields::train_of;
@@ -30,13 +32,14 @@ use track::curves::end_curve;
 use track::curves::give_curve;
 use track::sections::end_section;
 use track::sections::give_section;
-use track::whole::fresh_track;
+use track::whole::cleared_track;
+use track::whole::passed_track;
 use track::whole::with_curves;
 use track::whole::with_forty;
 use track::whole::with_sections;
 use wire::byte_at;
 
-// Entering CS drops curves, sections, causes, their counters and the 40.
+// Entering CS drops curves, sections, causes, their counters and the 40, and keeps the area.
 fn enter(state: State, stm: Stm) -> Stm
     ensures { λ r. ⌜ r ≡ entered state stm ⌝ }
 {
@@ -48,7 +51,8 @@ fn enter(state: State, stm: Stm) -> Stm
     };
     next.control = control;
     if is_state(State::CS, state) {
-        next.track = fresh_track();
+        let track = stm.track;
+        next.track = cleared_track(track);
         next.brakes = fresh_brakes();
     }
     next
@@ -143,6 +147,10 @@ pub fn accept(command: &[u8], s: &[u8], stm: Stm) -> Stm
         Code::TestBrakes => {
             let test = stm.test;
             next.test = begun_test(test);
+            remember(command, next)
+        }
+        Code::AreaEvent => {
+            next.track = passed_track(event_in(s), event_speed(s), track);
             remember(command, next)
         }
     }

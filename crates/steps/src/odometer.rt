@@ -81,6 +81,7 @@ fn measure(command: &[u8], r: Reading, stm: Stm) -> Stm
     let control = stm.control;
     let state = control.state;
     let train = stm.train;
+    let track = stm.track;
     let brakes = stm.brakes;
     let test = stm.test;
     let before = stm.feedback;
@@ -89,7 +90,7 @@ fn measure(command: &[u8], r: Reading, stm: Stm) -> Stm
     next.kept = kept_of(r);
     let last = Last {
         bytes: padded(command),
-        report: report_outside(state, brakes, feedback, test),
+        report: report_outside(state, track, brakes, feedback, test),
     };
     next.last = last;
     next
@@ -115,6 +116,7 @@ fn test_brakes(command: &[u8], r: Reading, stm: Stm) -> Stm
     let control = stm.control;
     let state = control.state;
     let train = stm.train;
+    let track = stm.track;
     let brakes = stm.brakes;
     let before = stm.feedback;
     let begun = stm.test;
@@ -127,7 +129,7 @@ fn test_brakes(command: &[u8], r: Reading, stm: Stm) -> Stm
     next.kept = kept_of(r);
     let last = Last {
         bytes: padded(command),
-        report: report_outside(state, brakes, feedback, test),
+        report: report_outside(state, track, brakes, feedback, test),
     };
     next.last = last;
     next

@@ -11,7 +11,9 @@ ghost use Rattle.rules.specs.Table.{orderOf};
 ghost use Rattle.rules.specs.Odometer.{isInsufficient, seenIn};
 ghost use Rattle.rules.specs.Commands.{remembered};
 ghost use Rattle.curve.specs.Ground.{never};
+ghost use Rattle.areas.specs.Numbers.{areaNumber};
 ghost use Rattle.rules.specs.Reports.{causesNumber, messagesOf, offeredOf, isOver, shownFields, changeOf, fields, reportInDA, testOrder, reportOf};
+use areas::area_number;
 use brake_test::has_failed;
 use brake_test::has_passed;
 use brake_test::is_running;
@@ -24,7 +26,6 @@ use colours::bar_number;
 use colours::mode_number;
 use colours::row_of;
 use colours::showing_number;
-use curve::Curve;
 use curve::Judged;
 use encoding::numbers::is_state;
 use encoding::numbers::order_number;
@@ -43,6 +44,7 @@ use rules::Seen;
 use rules::Stage;
 use rules::State;
 use rules::Stm;
+use rules::Track;
 use rules::Train;
 use track::shows::change_of;
 use track::shows::chosen;
@@ -148,14 +150,17 @@ fn report_in_da(
     vmax: u16,
     seen: Seen,
     train: Train,
-    curves: [Curve; PLACES],
+    track: Track,
     brakes: Brakes,
     feedback: Measured,
     test: BrakeTest,
     kept: Kept,
 ) -> [u8; REPORT_LENGTH]
-    ensures { λ r. ⌜ r ≡ fields (stateNumber State.DA) (orderNumber (orderOf (train .softly) (brakes .causes))) (causesNumber (brakes .causes)) (permittedSpeed vmax judged) vmax (shownFields (isOver train kept (chosen curves judged)) (isInsufficient train feedback) (chosen curves judged)) (messagesOf brakes feedback test) (offeredOf seen (brakes .causes)) (changeOf train kept (chosen curves judged)) ⌝ }
+    ensures { λ r. ⌜ r ≡ fields (stateNumber State.DA) (orderNumber (orderOf (train .softly) (brakes .causes))) (causesNumber (brakes .causes)) (permittedSpeed vmax judged) vmax (shownFields (isOver train kept (chosen (track .curves) judged)) (isInsufficient train feedback) (chosen (track .curves) judged)) (messagesOf brakes feedback test) (offeredOf seen (brakes .causes)) (changeOf train kept (chosen (track .curves) judged)) (areaNumber (track .stay .area)) ⌝ }
 {
+    let curves = track.curves;
+    let stay = track.stay;
+    let area = stay.area;
     let causes = brakes.causes;
     let number = causes_number(causes);
     let permitted = permitted_speed(vmax, judged);
@@ -187,6 +192,7 @@ fn report_in_da(
         low(first),
         high(last),
         low(last),
+        area_number(area),
     ]
 }
 
@@ -217,12 +223,15 @@ fn order_outside(state: State, stage: Stage) -> u8
 // Outside DA.
 pub fn report_outside(
     state: State,
+    track: Track,
     brakes: Brakes,
     feedback: Measured,
     test: BrakeTest,
 ) -> [u8; REPORT_LENGTH]
-    ensures { λ r. ⌜ r ≡ fields (stateNumber state) (cond (isState State.FA state) 3 (cond (isState State.DE state) (testOrder (test .stage)) 0)) 0 0 0 (255 ∷ 0 ∷ 0 ∷ 0 ∷ []) (messagesOf brakes feedback test) 0 never ⌝ }
+    ensures { λ r. ⌜ r ≡ fields (stateNumber state) (cond (isState State.FA state) 3 (cond (isState State.DE state) (testOrder (test .stage)) 0)) 0 0 0 (255 ∷ 0 ∷ 0 ∷ 0 ∷ []) (messagesOf brakes feedback test) 0 never (areaNumber (track .stay .area)) ⌝ }
 {
+    let stay = track.stay;
+    let area = stay.area;
     let stage = test.stage;
     [
         state_number(state),
@@ -243,6 +252,7 @@ pub fn report_outside(
         255,
         255,
         255,
+        area_number(area),
     ]
 }
 
@@ -267,7 +277,7 @@ fn report_now(stm: Stm) -> [u8; REPORT_LENGTH]
         vmax,
         seen,
         train,
-        curves,
+        track,
         brakes,
         feedback,
         test,
@@ -284,10 +294,11 @@ fn report_of(stm: Stm) -> [u8; REPORT_LENGTH]
     if is_state(State::DA, state) {
         return report_now(stm);
     }
+    let track = stm.track;
     let brakes = stm.brakes;
     let feedback = stm.feedback;
     let test = stm.test;
-    report_outside(state, brakes, feedback, test)
+    report_outside(state, track, brakes, feedback, test)
 }
 
 // The report of a state of which it is known already what its curves say, its VMAX and what is seen.
@@ -305,7 +316,6 @@ pub(crate) fn report_with(
     if is_state(State::DA, state) {
         let train = stm.train;
         let track = stm.track;
-        let curves = track.curves;
         let brakes = stm.brakes;
         let feedback = stm.feedback;
         let test = stm.test;
@@ -315,7 +325,7 @@ pub(crate) fn report_with(
             vmax,
             seen,
             train,
-            curves,
+            track,
             brakes,
             feedback,
             test,

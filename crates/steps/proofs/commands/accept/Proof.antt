@@ -133,6 +133,21 @@ begun-test-requires c κs = tt
 remember-requires-10 : tie.Need-remember-requires-10
 remember-requires-10 c κs = tt
 
+enum-told-12 : tie.Need-enum-told-12
+enum-told-12 c = search needs
+
+event-in-requires : tie.Need-event-in-requires
+event-in-requires c κs = tt
+
+event-speed-requires : tie.Need-event-speed-requires
+event-speed-requires c κs = tt
+
+passed-track-requires : tie.Need-passed-track-requires
+passed-track-requires c κs = tt
+
+remember-requires-11 : tie.Need-remember-requires-11
+remember-requires-11 c κs = tt
+
 returns : tie.Need-returns
 returns c =
     let told = c .before .before .before in
@@ -221,6 +236,19 @@ returns-11 c =
     rw (c .remember10 .ensures, c .before .begun-test .ensures)
     (known (a .command .now) (a .s .now) (a .stm) (coded .before .byte-at .ensures) (coded .code-of .ensures) (told .enum-told11 .given .1))
 
+returns-12 : tie.Need-returns-12
+returns-12 c =
+    let told = c .before .before .before .before in
+    let coded = told .before .before in
+    let a = coded .before .before .before .before .before .before .args in
+    rw (
+      c .remember11 .ensures,
+      c .before .passed-track .ensures,
+      c .before .before .event-speed .ensures,
+      c .before .before .before .event-in .ensures,
+    )
+    (known (a .command .now) (a .s .now) (a .stm) (coded .before .byte-at .ensures) (coded .code-of .ensures) (told .enum-told12 .given .1))
+
 pub accept-spec : {M : Type 1} → statement M
 accept-spec =
     tie.close
@@ -264,6 +292,11 @@ accept-spec =
     enum-told-11
     begun-test-requires
     remember-requires-10
+    enum-told-12
+    event-in-requires
+    event-speed-requires
+    passed-track-requires
+    remember-requires-11
     returns
     returns-2
     returns-3
@@ -274,4 +307,5 @@ accept-spec =
     returns-8
     returns-9
     returns-10
-    returns-11)
+    returns-11
+    returns-12)

@@ -4,7 +4,7 @@ use mathlib.Core.Bool.{cond}
 use Rattle.rules.specs.declared.State.{State}
 use Rattle.rules.specs.declared.Stm.{Stm}
 use Rattle.rules.specs.Numbers.{isState}
-use Rattle.rules.specs.Places.{freshTrack}
+use Rattle.rules.specs.Places.{clearedTrack}
 use Rattle.rules.specs.Releases.{freshBrakes}
 use Rattle.rules.specs.Odometer.{withState, withTrack, withBrakes}
 use Rattle.rules.specs.Commands.{entered}
@@ -14,7 +14,7 @@ use Rattle.steps.proofs.commands.enter.Tie as tie
 -- the five states by whether they are CS
 by-state : (state : State) (stm : Stm)
     → entered state stm
-    ≡ cond (isState State.CS state) (withBrakes (withTrack (withState stm state) freshTrack) freshBrakes) (withState stm state)
+    ≡ cond (isState State.CS state) (withBrakes (withTrack (withState stm state) (clearedTrack (stm .track))) freshBrakes) (withState stm state)
 by-state State.DE stm = refl
 by-state State.CS stm = refl
 by-state State.HS stm = refl
@@ -24,21 +24,21 @@ by-state State.FA stm = refl
 is-state-requires : tie.Need-is-state-requires
 is-state-requires c κs = tt
 
-fresh-track-requires : tie.Need-fresh-track-requires
-fresh-track-requires c κs = tt
+cleared-track-requires : tie.Need-cleared-track-requires
+cleared-track-requires c κs = tt
 
 fresh-brakes-requires : tie.Need-fresh-brakes-requires
 fresh-brakes-requires c κs = tt
 
 returns : tie.Need-returns
 returns c =
-    let taken = c .before .before in
+    let taken = c .before .before .before in
     let a = taken .before .before .before .args in
     rw (
       by-state (a .state) (a .stm),
       sym (taken .before .is-state .ensures) ∙ taken .if1 .taken,
       c .fresh-brakes .ensures,
-      c .before .fresh-track .ensures,
+      c .before .cleared-track .ensures,
     )
 
 returns-2 : tie.Need-returns-2
@@ -51,7 +51,7 @@ enter-spec =
     tie.close
     (tie.spec
     is-state-requires
-    fresh-track-requires
+    cleared-track-requires
     fresh-brakes-requires
     returns
     returns-2)

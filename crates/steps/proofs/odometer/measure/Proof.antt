@@ -22,7 +22,7 @@ unfolding remembered measures
 returns c =
     let padded = c .before in
     let measured = padded .before .before in
-    let s = measured .before .before .before .before .before .before .before in
+    let s = measured .before .before .before .before .before .before .before .before in
     rw (
       report-elsewhere (measures (s .args .r) (s .args .stm)) (s .pre),
       c .report-outside .ensures,

@@ -32,7 +32,7 @@ returns c =
     let padded = c .before in
     let kept = padded .before in
     let tested = kept .before .before .before in
-    let s = tested .before .before .before .before .before .before .before .before in
+    let s = tested .before .before .before .before .before .before .before .before .before in
     rw (
       report-elsewhere (tests (s .args .r) (measures (s .args .r) (s .args .stm))) (s .pre),
       c .report-outside .ensures,

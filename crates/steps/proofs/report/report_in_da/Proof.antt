@@ -75,9 +75,13 @@ high-requires-5 c κs = tt
 low-requires-5 : tie.Need-low-requires-5
 low-requires-5 c κs = tt
 
+area-number-requires : tie.Need-area-number-requires
+area-number-requires c κs = tt
+
 returns : tie.Need-returns
 returns c =
-    let c4 = c .before .before .before .before in
+    let b = c .before in
+    let c4 = b .before .before .before .before in
     let c8 = c4 .before .before .before .before in
     let c12 = c8 .before .before .before .before in
     let c16 = c12 .before .before .before .before in
@@ -87,12 +91,13 @@ returns c =
       sym (c20 .is-over .ensures),
       sym (c16 .before .before .before .is-insufficient .ensures),
       sym (c16 .before .before .shown-fields .ensures),
+      c .area-number .ensures,
     )
     (rw (
-      c .low5 .ensures,
-      c .before .high5 .ensures,
-      c .before .before .low4 .ensures,
-      c .before .before .before .high4 .ensures,
+      b .low5 .ensures,
+      b .before .high5 .ensures,
+      b .before .before .low4 .ensures,
+      b .before .before .before .high4 .ensures,
       c4 .offered-of .ensures,
       c4 .before .messages-of .ensures,
       c4 .before .before .low3 .ensures,
@@ -106,12 +111,14 @@ returns c =
       c12 .order-number .ensures,
       c12 .before .order-of .ensures,
       c12 .before .before .state-number .ensures,
+    )
+    (rw (
       c12 .before .before .before .low-pair .ensures,
       c16 .high-pair .ensures,
       c16 .before .change-of .ensures,
       c20 .before .before .permitted-speed .ensures,
       c20 .before .before .before .causes-number .ensures,
-    )))
+    ))))
 
 pub report-in-da-spec : {M : Type 1} → statement M
 report-in-da-spec =
@@ -141,4 +148,5 @@ report-in-da-spec =
     low-requires-4
     high-requires-5
     low-requires-5
+    area-number-requires
     returns)

@@ -20,7 +20,7 @@ report-outside-requires c κs = tt
 
 returns-2 : tie.Need-returns-2
 returns-2 c =
-    let o = c .before .before .before .before in
+    let o = c .before .before .before .before .before in
     let stm = o .before .before .before .args .stm in
     rw (
       c .report-outside .ensures,

@@ -11,8 +11,24 @@ order-outside-requires c κs = tt
 messages-of-requires : tie.Need-messages-of-requires
 messages-of-requires c κs = tt
 
+area-number-requires : tie.Need-area-number-requires
+area-number-requires c κs = tt
+
 returns : tie.Need-returns
-returns c = rw (c .messages-of .ensures, c .before .order-outside .ensures, c .before .before .state-number .ensures)
+returns c =
+    rw (
+      c .area-number .ensures,
+      c .before .messages-of .ensures,
+      c .before .before .order-outside .ensures,
+      c .before .before .before .state-number .ensures,
+    )
 
 pub report-outside-spec : {M : Type 1} → statement M
-report-outside-spec = tie.close (tie.spec state-number-requires order-outside-requires messages-of-requires returns)
+report-outside-spec =
+    tie.close
+    (tie.spec
+    state-number-requires
+    order-outside-requires
+    messages-of-requires
+    area-number-requires
+    returns)

@@ -14,7 +14,7 @@ report-in-da-requires c κs = tt
 returns : tie.Need-returns
 unfolding reportInDA reportWith
 returns c =
-    let taken = c .before .before .before .before .before .before .before .before in
+    let taken = c .before .before .before .before .before .before .before in
     let s = taken .before .before .before in
     rw (
       report-inside (s .args .stm) (sym (taken .before .is-state .ensures) ∙ taken .if1 .taken),
