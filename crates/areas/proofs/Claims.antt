@@ -4,45 +4,27 @@ use Prim.Native.Nat.{ℕ, _+_, _≤_, _<_}
 use native.Mathlib.Omega.{arith}
 use native.Mathlib.Nat.{zero-add, add-zero}
 use mathlib.Core.Bool.{Bool, true, false, cond, not, _&&_}
-use mathlib.Core.List.{List, [], _∷_, map}
+use mathlib.Core.List.{List, [], _∷_}
 use native.Mathlib.Decide.{decLe}
 use lib.Dec.{eqb, leb}
 use borrow.Author.Tests.{ne-eqb, le-leb, lt-leb}
 use Rattle.areas.specs.Numbers.{areaNumber, isArea, eventNumber, eventOf, isEvent}
-use Rattle.areas.specs.Rows.{isTaken, targetOf}
+use Rattle.areas.specs.Rows.{targetOf}
 use Rattle.areas.specs.Stays.{begunStay, freshStay, withOverlap, clearedStay, lineBy, missed, passedStay, deletesSections, coveredBy, coveredStay, lineSpeed, areaSpeed}
-use Rattle.areas.specs.Claims.{NumbersAreTold, takes, enters, RowsAreTold, EventIsFollowed, OnlyInPartialArea, EnteringGmdDeletes, coveredAll, sum, GroupWaits, SecondGroupMovesNothing, GroundAloneIsNothing, CSKeepsArea, StartsInFull}
+use Rattle.areas.specs.Claims.{NumbersAreTold, EventIsFollowed, OnlyInPartialArea, EnteringGmdDeletes, coveredAll, sum, GroupWaits, SecondGroupMovesNothing, GroundAloneIsNothing, CSKeepsArea, StartsInFull}
 use Rattle.areas.specs.declared.Area.{Area}
 use Rattle.areas.specs.declared.Event.{Event}
 use Rattle.areas.specs.declared.LineSpeed.{LineSpeed}
 use Rattle.areas.specs.declared.Overlap.{Overlap}
 use Rattle.areas.specs.declared.Stay.{Stay}
-use Rattle.areas.proofs.Told.{events, each, takenBy, enteredBy, taken-by, target-by}
+use Rattle.areas.proofs.Table.{each, target-number}
+use Rattle.areas.proofs.Told.{taken-by, target-by}
 
--- ---- numbers and rows
+-- ---- numbers
 
 pub numbers-are-told : NumbersAreTold
 unfolding eventOf
 numbers-are-told = (refl, each (λ event. eventOf (eventNumber event)) (λ event. event) refl)
-
-taken-numbers : (area : Area) → map (takenBy area) events ≡ map (λ event. takes (areaNumber area) (eventNumber event)) events
-taken-numbers Area.NonEquipped = refl
-taken-numbers Area.Partial = refl
-taken-numbers Area.HT = refl
-taken-numbers Area.Full = refl
-
-entered-number : (event : Event) → areaNumber (enteredBy event) ≡ enters (eventNumber event)
-entered-number = each (λ event. areaNumber (enteredBy event)) (λ event. enters (eventNumber event)) refl
-
-pub target-number : (area : Area) (event : Event) → isTaken area event ≡ true → areaNumber (targetOf area event) ≡ enters (eventNumber event)
-target-number area event t = ap areaNumber (target-by area event true t) ∙ entered-number event
-
-pub rows-are-told : RowsAreTold
-rows-are-told area event = (
-  taken-by area event
-      ∙ each (takenBy area) (λ e. takes (areaNumber area) (eventNumber e)) (taken-numbers area) event,
-  target-number area event,
-)
 
 -- ---- an event
 

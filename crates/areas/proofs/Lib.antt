@@ -1,3 +1,4 @@
+pub mod Table
 pub mod Told
 pub mod Claims
 pub mod Computing

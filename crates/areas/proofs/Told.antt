@@ -1,12 +1,11 @@
--- The rows, event by event: computed for each area over all events. Assumes nothing.
+-- What the code and the laws above say of rows and numbers. Assumes nothing.
 use mathlib.Core.Path.{_≡_, refl, sym, _∙_, ap}
 use Prim.Native.Nat.{ℕ, _≤_}
 use native.Mathlib.Omega.{arith}
 use mathlib.Core.Bool.{Bool, true, false, cond, not, _&&_, _||_, false≢true}
-use mathlib.Core.List.{List, [], _∷_, map}
+use mathlib.Core.List.{map}
 use mathlib.Core.Option.{Option, none, some}
 use lib.Dec.{eqb}
-use lib.ListN.{getD}
 use borrow.Author.Tests.{eqb-true, eqb-false}
 use Rattle.areas.specs.Numbers.{areaNumber, isArea, eventNumber, eventOf, isEvent}
 use Rattle.areas.specs.Rows.{rows, leadsIn, isSome, areaOr, isTaken, targetOf}
@@ -14,27 +13,7 @@ use Rattle.areas.specs.Stays.{deletesSections}
 use Rattle.areas.specs.declared.Area.{Area}
 use Rattle.areas.specs.declared.Event.{Event}
 use Rattle.areas.specs.declared.Stay.{Stay}
-
-abbrev pub events : List Event
-events =
-    Event.Signal ∷
-    Event.GMD ∷
-    Event.HTDeleted ∷
-    Event.NoOverlap ∷
-    Event.ToNonEquipped ∷
-    Event.ToHT ∷
-    Event.ToFull ∷
-    []
-
--- what holds over the list of events holds at each
-pub each : {A : Type 0} (f g : Event → A) → map f events ≡ map g events → (event : Event) → f event ≡ g event
-each f g e Event.Signal = ap (λ l. getD l 0 (f Event.Signal)) e
-each f g e Event.GMD = ap (λ l. getD l 1 (f Event.GMD)) e
-each f g e Event.HTDeleted = ap (λ l. getD l 2 (f Event.HTDeleted)) e
-each f g e Event.NoOverlap = ap (λ l. getD l 3 (f Event.NoOverlap)) e
-each f g e Event.ToNonEquipped = ap (λ l. getD l 4 (f Event.ToNonEquipped)) e
-each f g e Event.ToHT = ap (λ l. getD l 5 (f Event.ToHT)) e
-each f g e Event.ToFull = ap (λ l. getD l 6 (f Event.ToFull)) e
+use Rattle.areas.proofs.Table.{events, each}
 
 -- where an event is taken, and what it leads to
 abbrev pub takenBy : Area → Event → Bool

@@ -1,4 +1,4 @@
--- The example of 01, as bytes in and bytes out; each report has F-1's four bytes at its end (02).
+-- The example of 01, as bytes in and bytes out; each report has F-1's four bytes and F-6's area at its end (02).
 use Prim.Native.Nat.{ℕ}
 use mathlib.Core.Path.{_≡_}
 use mathlib.Core.List.{List, [], _∷_, _++_}
@@ -23,9 +23,9 @@ exampleInput = start ++ toCS ++ toCS ++ toDA ++ (0x7F ∷ [])
 
 abbrev pub exampleOutput : List ℕ
 exampleOutput =
-    ascii "0 0000000000000000FF0000000000FFFFFFFF\n"
-    ++ ascii "0 0100000000000000FF0000000000FFFFFFFF\n"
-    ++ ascii "100 0100000000000000FF0000000000FFFFFFFF\n"
+    ascii "0 0000000000000000FF0000000000FFFFFFFF08\n"
+    ++ ascii "0 0100000000000000FF0000000000FFFFFFFF08\n"
+    ++ ascii "100 0100000000000000FF0000000000FFFFFFFF08\n"
     ++ ascii "10\n"
     ++ ascii "3\n"
 

@@ -10,7 +10,7 @@ use Rattle.sheet.specs.Pages.{sheetOf}
 -- a report's state, order, causes, permitted speed, VMAX, shown id and interval, in bytes; nothing else of it is printed
 abbrev reportOf : ℕ → ℕ → ℕ → ℕ → ℕ → ℕ → ℕ → ℕ → ℕ → ℕ → List ℕ
 reportOf state order cause₁ cause₂ permitted₁ permitted₂ vmax₁ vmax₂ id interval =
-    state ∷ order ∷ cause₁ ∷ cause₂ ∷ permitted₁ ∷ permitted₂ ∷ vmax₁ ∷ vmax₂ ∷ id ∷ interval ∷ replicate 8 0
+    state ∷ order ∷ cause₁ ∷ cause₂ ∷ permitted₁ ∷ permitted₂ ∷ vmax₁ ∷ vmax₂ ∷ id ∷ interval ∷ replicate 9 0
 
 -- a start; the same state once more; to HS; DA with no curve; a curve in Ab, and then in B with nothing else changed, which is not printed; a full
 -- order in D; FA; a start with a number of ten digits

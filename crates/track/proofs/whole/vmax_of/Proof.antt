@@ -20,7 +20,7 @@ lower-requires-2 c κs = tt
 
 returns : tie.Need-returns
 unfolding vmaxOf
-returns c = 
+returns c =
     rw (
       c .lower2 .ensures,
       c .before .lower .ensures,
