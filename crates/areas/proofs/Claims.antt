@@ -18,7 +18,7 @@ use Rattle.areas.specs.declared.LineSpeed.{LineSpeed}
 use Rattle.areas.specs.declared.Overlap.{Overlap}
 use Rattle.areas.specs.declared.Stay.{Stay}
 use Rattle.areas.proofs.Table.{each, target-number}
-use Rattle.areas.proofs.Told.{taken-by, target-by}
+use Rattle.areas.proofs.Told.{taken-by, target-by, event-gmd}
 
 -- ---- numbers
 
@@ -61,6 +61,11 @@ only-in-partial-area train stay n = rw (ne-eqb (areaNumber (stay .area)) 4 n)
 pub entering-gmd-deletes : EnteringGmdDeletes
 unfolding deletesSections
 entering-gmd-deletes event stay = refl
+
+-- by the byte that is sent
+pub deletes-told : (byte : ℕ) (stay : Stay) → deletesSections (eventOf byte) stay ≡ (eqb byte 1 && not (eqb (areaNumber (stay .area)) 4))
+deletes-told byte stay =
+    entering-gmd-deletes (eventOf byte) stay ∙ ap (λ gmd. gmd && not (eqb (areaNumber (stay .area)) 4)) (event-gmd byte)
 
 -- ---- 50 m
 

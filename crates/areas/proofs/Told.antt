@@ -2,17 +2,15 @@
 use mathlib.Core.Path.{_≡_, refl, sym, _∙_, ap}
 use Prim.Native.Nat.{ℕ, _≤_}
 use native.Mathlib.Omega.{arith}
-use mathlib.Core.Bool.{Bool, true, false, cond, not, _&&_, _||_, false≢true}
+use mathlib.Core.Bool.{Bool, true, false, cond, not, _||_, false≢true}
 use mathlib.Core.List.{map}
 use mathlib.Core.Option.{Option, none, some}
 use lib.Dec.{eqb}
 use borrow.Author.Tests.{eqb-true, eqb-false}
-use Rattle.areas.specs.Numbers.{areaNumber, isArea, eventNumber, eventOf, isEvent}
+use Rattle.areas.specs.Numbers.{isArea, eventNumber, eventOf, isEvent}
 use Rattle.areas.specs.Rows.{rows, leadsIn, isSome, areaOr, isTaken, targetOf}
-use Rattle.areas.specs.Stays.{deletesSections}
 use Rattle.areas.specs.declared.Area.{Area}
 use Rattle.areas.specs.declared.Event.{Event}
-use Rattle.areas.specs.declared.Stay.{Stay}
 use Rattle.areas.proofs.Table.{events, each}
 
 -- where an event is taken, and what it leads to
@@ -128,8 +126,3 @@ event-gmd byte = by (eqb byte 0) (eqb byte 1) refl refl
     by true false e0 e1 = refl
     by false true e0 e1 = refl
     by false false e0 e1 = others (eqb byte 2) (eqb byte 3) (eqb byte 4) (eqb byte 5)
-
--- an entering GMD deletes the sections
-pub deletes-told : (byte : ℕ) (stay : Stay) → deletesSections (eventOf byte) stay ≡ (eqb byte 1 && not (eqb (areaNumber (stay .area)) 4))
-unfolding deletesSections
-deletes-told byte stay = ap (λ gmd. gmd && not (isArea Area.Partial (stay .area))) (event-gmd byte)

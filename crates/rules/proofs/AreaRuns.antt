@@ -23,9 +23,9 @@ use Rattle.areas.specs.Numbers.{areaNumber, isArea, eventNumber, eventOf, isEve
 use Rattle.areas.specs.Rows.{isTaken, targetOf}
 use Rattle.areas.specs.Stays.{begunStay, withOverlap, lineBy, missed, passedStay, coveredBy, coveredStay}
 use Rattle.areas.specs.Claims.{takes, enters}
-use Rattle.areas.proofs.Told.{taken-by, target-by, partial-is, full-is, event-number, event-gmd, deletes-told}
+use Rattle.areas.proofs.Told.{taken-by, target-by, partial-is, full-is, event-number, event-gmd}
 use Rattle.areas.proofs.Table.{rows-are-told, target-number}
-use Rattle.areas.proofs.Claims.{pends, covered-below, covered-past}
+use Rattle.areas.proofs.Claims.{deletes-told, pends, covered-below, covered-past}
 use Rattle.rules.specs.Numbers.{answerNumber, isAccepted, isCode, isState, codeOf, stateOf}
 use Rattle.rules.specs.Operands.{codeByte, numberOf, within, readingOf, eventIn, eventSpeed, eventInRange}
 use Rattle.rules.specs.Places.{freeSection, noSections, passedTrack}

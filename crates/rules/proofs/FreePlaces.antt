@@ -9,7 +9,7 @@ use Rattle.wire.specs.Numbers.{byteAt}
 use Rattle.wire.specs.Form.{operandsOf}
 use Rattle.places.specs.Places.{movedHere, movedAll}
 use Rattle.places.proofs.Held.{free-moved, free-noted}
-use Rattle.areas.proofs.Told.{deletes-told}
+use Rattle.areas.proofs.Claims.{deletes-told}
 use Rattle.rules.specs.Numbers.{isAccepted, isCode, isState, codeOf, stateOf}
 use Rattle.rules.specs.Operands.{codeByte, readingOf}
 use Rattle.rules.specs.Places.{freeCurve, freeSection, endedCurve, endingSection, endedSection, movedSection, passedTrack, movedTrack}

@@ -10,7 +10,7 @@ use lib.Dec.{eqb, leb}
 use lib.ListN.{getD}
 use Rattle.wire.specs.Numbers.{byteAt}
 use Rattle.wire.specs.Form.{operandsOf}
-use Rattle.areas.proofs.Told.{deletes-told}
+use Rattle.areas.proofs.Claims.{deletes-told}
 use Rattle.rules.specs.Numbers.{isAccepted, isCode, isState, codeOf, stateOf}
 use Rattle.rules.specs.Operands.{codeByte, twoAt, readingOf, sectionOf}
 use Rattle.rules.specs.Places.{anyOf, placed, freeSection, endingSection, givenSection, endedSection, movedSection, passedTrack, movedTrack}
