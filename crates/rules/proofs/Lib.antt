@@ -50,12 +50,3 @@ pub mod TwoReports
 pub mod TwoReadings
 pub mod TwoRuns
 pub mod Computing
-pub mod Figures
-pub mod LedUnits
-pub mod Pairs
-pub mod Needed
-pub mod Harder
-pub mod Tables
-pub mod Cases
-pub mod ChangeFigures
-pub mod LargerFigure

@@ -33,8 +33,3 @@ pub mod Changes
 pub mod TwoRuns
 pub mod TestRuns
 pub mod AreaRuns
-pub mod Figures
-pub mod Pairs
-pub mod Tables
-pub mod Cases
-pub mod ChangeFigures

@@ -1,5 +1,4 @@
 -- `areas::numbers::is_area` meets its contract.
-use borrow.Author.Needs.{needs}
 use Rattle.areas.proofs.numbers.is_area.Statement.{statement}
 use Rattle.areas.proofs.numbers.is_area.Tie as tie
 

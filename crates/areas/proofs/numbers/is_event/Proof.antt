@@ -1,5 +1,4 @@
 -- `areas::numbers::is_event` meets its contract.
-use borrow.Author.Needs.{needs}
 use Rattle.areas.proofs.numbers.is_event.Statement.{statement}
 use Rattle.areas.proofs.numbers.is_event.Tie as tie
 

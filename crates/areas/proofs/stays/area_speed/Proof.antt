@@ -1,7 +1,6 @@
 -- `areas::stays::area_speed` meets its contract.
 use mathlib.Core.Path.{sym, _∙_}
 use Rattle.areas.specs.Stays.{areaSpeed}
-use borrow.Author.Needs.{needs}
 use Rattle.areas.proofs.stays.area_speed.Statement.{statement}
 use Rattle.areas.proofs.stays.area_speed.Tie as tie
 

@@ -1,6 +1,5 @@
 -- `areas::stays::deletes_sections` meets its contract.
 use Rattle.areas.specs.Stays.{deletesSections}
-use borrow.Author.Needs.{needs}
 use Rattle.areas.proofs.stays.deletes_sections.Statement.{statement}
 use Rattle.areas.proofs.stays.deletes_sections.Tie as tie
 

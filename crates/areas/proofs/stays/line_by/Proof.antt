@@ -1,6 +1,5 @@
 -- `areas::stays::line_by` meets its contract.
 use mathlib.Core.Path.{sym, _∙_}
-use borrow.Author.Needs.{needs}
 use Rattle.areas.proofs.stays.line_by.Statement.{statement}
 use Rattle.areas.proofs.stays.line_by.Tie as tie
 

@@ -1,7 +1,6 @@
 -- `areas::stays::passed_stay` meets its contract.
 use mathlib.Core.Path.{sym, _∙_}
 use Rattle.areas.specs.Stays.{passedStay}
-use borrow.Author.Needs.{needs}
 use Rattle.areas.proofs.stays.passed_stay.Statement.{statement}
 use Rattle.areas.proofs.stays.passed_stay.Tie as tie
 

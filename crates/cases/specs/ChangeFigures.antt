@@ -4,10 +4,10 @@ use Prim.Native.Nat.{ℕ, _+_, _-_, _/_, _%_}
 use mathlib.Core.List.{List, [], _∷_}
 use Rattle.wire.specs.Report.{changeIn}
 use Rattle.curve.specs.Ground.{never}
 use Rattle.rules.specs.Runs.{momentOf}
-use Rattle.rules.specs.Tables.{Command, sent, further, start, report, curve, curveEnd}
-use Rattle.rules.specs.Cases.{fastTrain, startedInDA, halka, everyField}
+use Rattle.cases.specs.Tables.{Command, sent, further, start, report, curve, curveEnd}
+use Rattle.cases.specs.Cases.{fastTrain, startedInDA, halka, everyField}
 use Rattle.rules.specs.declared.Stm.{Stm}
 
 -- what a unit writes at a command that follows others
 abbrev pub writtenBy : Stm → List Command → Command → List ℕ

@@ -8,17 +8,17 @@ use Rattle.wire.specs.Codes.{longest}
 use Rattle.pressure.specs.declared.Feed.{Feed}
 use Rattle.pressure.specs.declared.Phase.{Phase}
 use Rattle.pressure.specs.Convert.{kPa}
 use Rattle.rules.specs.Places.{freshTrack}
 use Rattle.rules.specs.Releases.{freshBrakes}
 use Rattle.rules.specs.BrakeTest.{freshTest}
 use Rattle.rules.specs.Commands.{freshStm, padded}
 use Rattle.rules.specs.Runs.{Sent, stateAtEnd}
 use Rattle.rules.specs.TwoRuns.{TrainsCompared}
-use Rattle.rules.specs.Pairs.{inDA}
+use Rattle.cases.specs.Pairs.{inDA}
 use Rattle.rules.specs.declared.State.{State}
 use Rattle.rules.specs.declared.Train.{Train}
 use Rattle.rules.specs.declared.Stm.{Stm}
 use Rattle.rules.proofs.Computing.{computing}
 
 -- the train of 01's example, with 100 km/h and these figures
 abbrev pub trainWith : ℕ → ℕ → ℕ → Train

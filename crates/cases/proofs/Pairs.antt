@@ -9,19 +9,19 @@ use Rattle.wire.proofs.Values.{bytes-read}
 use Rattle.curve.specs.declared.Curve.{Curve}
 use Rattle.curve.specs.Claims.{Stricter}
 use Rattle.curve.proofs.Stricter.{same}
 use Rattle.rules.specs.Numbers.{codeOf}
 use Rattle.places.specs.Places.{places}
 use Rattle.areas.specs.declared.Stay.{Stay}
 use Rattle.areas.specs.Stays.{freshStay}
 use Rattle.rules.specs.Places.{anyOf, freeCurve, freeSection}
 use Rattle.rules.specs.Runs.{moments}
 use Rattle.rules.specs.Units.{IsUnit}
 use Rattle.rules.specs.TwoRuns.{TrainsCompared, TracksCompared, Compared, Both, Faster, RefusedAlike, NoServiceFault, NoEmergencyFault, InGear, UnexpectedStopAlike, NoTestRuns, Presumed, Claimed, ClaimGiven}
-use Rattle.rules.specs.Figures.{odometer}
-use Rattle.rules.specs.Pairs.{Pair, firstUnit, secondUnit}
+use Rattle.cases.specs.Figures.{odometer}
+use Rattle.cases.specs.Pairs.{Pair, firstUnit, secondUnit}
 use Rattle.rules.specs.declared.Section.{Section}
 use Rattle.rules.specs.declared.Stm.{Stm}
 use Rattle.rules.proofs.Keeps.{every-run-is-unit}
 
 -- ---- the units
 

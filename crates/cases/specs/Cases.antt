@@ -8,15 +8,15 @@ use lib.Dec.{eqb}
 use lib.ListN.{take, replicate}
 use Rattle.wire.specs.Bytes.{sameBytes}
 use Rattle.wire.specs.Report.{stateIn, orderIn, causesIn, permittedIn, vmaxIn, idIn, shownIn, barIn, modeIn, messagesIn, offeredIn, areaIn}
 use Rattle.rules.specs.Numbers.{answerNumber}
 use Rattle.rules.specs.Places.{allOf}
 use Rattle.rules.specs.Commands.{freshStm}
 use Rattle.rules.specs.Runs.{send, Moment, momentOf, stateAfter}
 use Rattle.rules.specs.History.{sum}
-use Rattle.rules.specs.Tables.{Command, start, state, report, curve, curveEnd, section, sectionEnd, stop, proceed}
-use Rattle.rules.specs.Tables.{baliseError, testBrakes, event, sent, further, halts, withReference}
+use Rattle.cases.specs.Tables.{Command, start, state, report, curve, curveEnd, section, sectionEnd, stop, proceed}
+use Rattle.cases.specs.Tables.{baliseError, testBrakes, event, sent, further, halts, withReference}
 use Rattle.rules.specs.declared.Answer.{Answer}
 use Rattle.rules.specs.declared.Stm.{Stm}
 
 -- ---- what a call answers and writes
 

@@ -8,21 +8,21 @@ use Rattle.wire.proofs.Values.{four-read}
 use Rattle.curve.specs.Ground.{never}
 use Rattle.interval.specs.Intervals.{intervalOf}
 use Rattle.interval.proofs.Divided.{changeFrom, change-divided}
 use Rattle.rules.specs.Numbers.{isAccepted}
 use Rattle.rules.specs.Speeds.{brakingOf}
 use Rattle.rules.specs.Reports.{changeOf}
 use Rattle.rules.specs.Runs.{Sent, answerTo, stateAfter, momentOf}
 use Rattle.rules.specs.History.{isIn}
-use Rattle.rules.specs.Tables.{Command, sent, further, report, curve, curveEnd}
-use Rattle.rules.specs.Cases.{fastTrain, startedInDA, halka, everyField}
-use Rattle.rules.specs.ChangeFigures.{writtenBy, trainInDA, to40, leaving, ChangeFigures}
+use Rattle.cases.specs.Tables.{Command, sent, further, report, curve, curveEnd}
+use Rattle.cases.specs.Cases.{fastTrain, startedInDA, halka, everyField}
+use Rattle.cases.specs.ChangeFigures.{writtenBy, trainInDA, to40, leaving, ChangeFigures}
 use Rattle.rules.specs.declared.Train.{Train}
 use Rattle.rules.specs.declared.Kept.{Kept}
 use Rattle.rules.specs.declared.Candidate.{Candidate}
 use Rattle.rules.specs.declared.State.{State}
 use Rattle.rules.specs.declared.Stm.{Stm}
 use Rattle.rules.proofs.Computing.{computing}
 use Rattle.rules.proofs.Written.{shown, in-da, written-is}
 
 -- the figure of a shown curve, by a division
 abbrev pub dividedOf : Train → Kept → Candidate → ℕ

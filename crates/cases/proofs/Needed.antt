@@ -6,15 +6,15 @@ use native.Mathlib.Bridge.{IsLe, le-by-compare}
 use native.Mathlib.Omega.{arith}
 use mathlib.Core.Bool.{true, false, false≢true}
 use mathlib.Core.List.{[]}
 use Rattle.rules.specs.Places.{freeCurve}
 use Rattle.rules.specs.Commands.{freshStm}
 use Rattle.rules.specs.Runs.{stateAtEnd}
 use Rattle.rules.specs.TwoRuns.{Both, Faster, RefusalsAreNeeded, NoServiceFaultIsNeeded, NoEmergencyFaultIsNeeded, GearIsNeeded, StopsAreNeeded, NoTestIsNeeded}
-use Rattle.rules.specs.Pairs.{gearPair, stopPassed, stopsPair, dropBetween, servicePair, emergencyPair, stopAhead, refusalsPair, inTest, testPair}
+use Rattle.cases.specs.Pairs.{gearPair, stopPassed, stopsPair, dropBetween, servicePair, emergencyPair, stopAhead, refusalsPair, inTest, testPair}
 use Rattle.rules.specs.declared.Stm.{Stm}
 use Rattle.rules.proofs.Computing.{computing}
-use Rattle.rules.proofs.LedUnits.{trains, standing, led, led-weaker, led-short-brake, led-short-check}
-use Rattle.rules.proofs.Pairs.{same-curve, itself, faster, Meets, concluded}
+use Rattle.cases.proofs.LedUnits.{trains, standing, led, led-weaker, led-short-brake, led-short-check}
+use Rattle.cases.proofs.Pairs.{same-curve, itself, faster, Meets, concluded}
 
 -- ---- no neutral
 

@@ -7,15 +7,15 @@ use native.Mathlib.Omega.{arith}
 use mathlib.Core.Bool.{true, false, false≢true}
 use Rattle.wire.specs.Report.{changeIn}
 use Rattle.places.specs.Places.{places}
 use Rattle.rules.specs.Runs.{Sent, momentOf, stateAtEnd}
 use Rattle.rules.specs.TwoRuns.{Compared, FigureMayBeLarger}
-use Rattle.rules.specs.Figures.{odometer}
-use Rattle.rules.specs.Pairs.{in434, in433, changePair}
+use Rattle.cases.specs.Figures.{odometer}
+use Rattle.cases.specs.Pairs.{in434, in433, changePair}
 use Rattle.rules.specs.declared.Stm.{Stm}
 use Rattle.rules.proofs.Computing.{computing}
-use Rattle.rules.proofs.LedUnits.{trains, standing, led}
-use Rattle.rules.proofs.Pairs.{one-curve, faster, Meets, units}
-use Rattle.rules.proofs.ChangeFigures.{figure-divided}
+use Rattle.cases.proofs.LedUnits.{trains, standing, led}
+use Rattle.cases.proofs.Pairs.{one-curve, faster, Meets, units}
+use Rattle.cases.proofs.ChangeFigures.{figure-divided}
 
 abbrev far : Stm
 far = stateAtEnd (standing 700 30 13) in434

@@ -2,12 +2,12 @@
 -- than the first, and two that meet them all. Their units are led from the state before any start. Proved in proofs/.
 use Prim.Native.Nat.{ℕ}
 use mathlib.Core.List.{List, [], _∷_}
 use Rattle.rules.specs.Reports.{two}
 use Rattle.rules.specs.Commands.{freshStm}
 use Rattle.rules.specs.Runs.{Sent, stateAtEnd}
-use Rattle.rules.specs.Figures.{numbered, startOf, odometer, intoDA, standstill}
+use Rattle.cases.specs.Figures.{numbered, startOf, odometer, intoDA, standstill}
 use Rattle.rules.specs.declared.Code.{Code}
 use Rattle.rules.specs.declared.Stm.{Stm}
 
 -- the commands that lead to the two units, and the reports that these are then sent
 pub record Pair : Type 0 where

@@ -4,13 +4,13 @@ use native.Mathlib.Nat.{le-refl}
 use native.Mathlib.Bridge.{IsLe, le-by-compare}
 use mathlib.Core.Bool.{true, false, false≢true}
 use Rattle.places.specs.Places.{places}
 use Rattle.rules.specs.Runs.{stateAtEnd}
 use Rattle.rules.specs.TwoRuns.{Compared, BrakesHarder}
-use Rattle.rules.specs.Pairs.{farCurve, nearCurve, harderPair}
+use Rattle.cases.specs.Pairs.{farCurve, nearCurve, harderPair}
 use Rattle.rules.specs.declared.Stm.{Stm}
 use Rattle.rules.proofs.Computing.{computing}
-use Rattle.rules.proofs.LedUnits.{trains, standing, led, led-weaker}
-use Rattle.rules.proofs.Pairs.{one-curve, faster, Meets, units}
+use Rattle.cases.proofs.LedUnits.{trains, standing, led, led-weaker}
+use Rattle.cases.proofs.Pairs.{one-curve, faster, Meets, units}
 
 abbrev far : Stm
 far = stateAtEnd (standing 700 30 13) farCurve

@@ -1,0 +1,9 @@
+pub mod Figures
+pub mod LedUnits
+pub mod Pairs
+pub mod Needed
+pub mod Harder
+pub mod Tables
+pub mod Cases
+pub mod ChangeFigures
+pub mod LargerFigure

@@ -1,0 +1,5 @@
+pub mod Figures
+pub mod Pairs
+pub mod Tables
+pub mod Cases
+pub mod ChangeFigures

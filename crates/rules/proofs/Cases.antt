@@ -1,9 +1,0 @@
--- The cases of specs/Cases hold, by computation.
-use mathlib.Core.Path.{refl}
-use Rattle.rules.specs.Tables.{further}
-use Rattle.rules.specs.Cases.{lastMoment, cases, CasesHold}
-use Rattle.rules.proofs.Computing.{computing}
-
-pub cases-hold : CasesHold
-unfolding computing further lastMoment cases
-cases-hold = refl
