@@ -1,6 +1,7 @@
 #!/usr/bin/env python3
 """Makes the definitions of `rules`, `colours`, `areas` and `sheet` wrong by one token, one at a time, in a copy of the repository, and tells which wrong
-ones the checker still takes: no promise speaks against those. docs/DECISIONS.md lists them.
+ones the checker still takes: no promise speaks against those. Those of `rules` are held to its promises and to the closed runs of `cases`.
+docs/DECISIONS.md lists them.
 
     python3 tests/wrong.py [--most N] [--seed S] [FILE..]
 
@@ -18,6 +19,7 @@ import tempfile
 
 RULES = ['Numbers', 'Operands', 'Places', 'Speeds', 'Hold', 'Table', 'Checks', 'Releases', 'BrakeTest', 'Odometer', 'Shows',
          'colours/Numbers', 'colours/Rows', 'areas/Numbers', 'areas/Rows', 'areas/Stays', 'Reports', 'Commands', 'Refusals', 'Calls']
+HELD = {'rules': 'cases'}  # the crate above, whose check proves this one too
 SWAPS = {'ltb': ['leb'], 'leb': ['ltb'], 'lt': ['le'], 'le': ['lt'], '&&': ['||'], '||': ['&&'], 'true': ['false'], 'false': ['true'],
          'min': ['Prim.Native.Nat.max'], 'not': ['']}
 TOKEN = re.compile(r'0x[0-9A-F]+\b|\b\d+\b|\b(?:ltb|leb|lt|le|true|false|min|not)\b|&&|\|\||\b(?:[A-Z]\w*\.)?[A-Z]\w*\b| \.[a-z]\w*\b')
@@ -97,10 +99,10 @@ def main():
             lines[at] = new
             with open(path, 'w') as f:
                 f.write('\n'.join(lines))
-            run = subprocess.run(['rt', 'dev', crate], cwd=copy, capture_output=True, text=True)
+            run = subprocess.run(['rt', 'dev', HELD.get(crate, crate)], cwd=copy, capture_output=True, text=True)
             with open(path, 'w') as f:
                 f.write(text)
-            errors = re.findall(rf'crates/{crate}/(\S+?\.antt:\d+)\S*: error: `?([\w-]*)', run.stdout + run.stderr)
+            errors = re.findall(r'crates/\w+/(\S+?\.antt:\d+)\S*: error: `?([\w-]*)', run.stdout + run.stderr)
             word = 'taken' if run.returncode == 0 else 'no type' if any(e[0].startswith('specs/') for e in errors) else 'refused'
             counts[word] += 1
             if word != 'no type':

@@ -1,4 +1,4 @@
--- Closed pairs of runs for point 3 (specs/TwoRuns): six in each of which one presumption is not met and the second run is milder
+-- Closed pairs of runs for point 3 (rules/TwoRuns): six in each of which one presumption is not met and the second run is milder
 -- than the first, and two that meet them all. Their units are led from the state before any start. Proved in proofs/.
 use Prim.Native.Nat.{ℕ}
 use mathlib.Core.List.{List, [], _∷_}

@@ -39,6 +39,7 @@ pub mod Keeps
 pub mod TestRuns
 pub mod Stays
 pub mod AreaRuns
+pub mod OneArea
 pub mod TestAlone
 pub mod Changes
 pub mod Monotone

@@ -47,6 +47,10 @@ module _ {x y : Sent} (faster : Faster x y) where
   same-buttons : byteAt (operandsOf (y .command)) 8 ≡ byteAt (operandsOf (x .command)) 8
   same-buttons = buttons-at (y .command) ∙ ap (λ s. byteAt s 6) (faster .after) ∙ sym (buttons-at (x .command))
 
+  pub same-moved : readingOf (operandsOf (y .command)) .moved ≡ readingOf (operandsOf (x .command)) .moved
+  unfolding readingOf
+  same-moved = same-two 0
+
   pub readings-below : InGear x y → ReadingsBelow (readingOf (operandsOf (x .command))) (readingOf (operandsOf (y .command)))
   unfolding readingOf
   readings-below gear = record {

@@ -15,8 +15,8 @@ use Rattle.rules.specs.Commands.{carriedOut, withLast, remembered, accep
 use Rattle.rules.specs.Refusals.{isStart}
 use Rattle.rules.specs.Calls.{areaFor, areaOf}
 use Rattle.rules.specs.BrakeTest.{isRunning}
-use Rattle.rules.specs.Runs.{Sent, Moment, answerTo, stateAfter, momentOf, moments}
-use Rattle.rules.specs.TwoRuns.{OneArea, AreasStayOne, Compared, Both, Faster, RefusedAlike, NoServiceFault, NoEmergencyFault, InGear}
+use Rattle.rules.specs.Runs.{Sent, answerTo, stateAfter, momentOf, moments}
+use Rattle.rules.specs.TwoRuns.{Compared, Both, Faster, RefusedAlike, NoServiceFault, NoEmergencyFault, InGear}
 use Rattle.rules.specs.TwoRuns.{UnexpectedStopAlike, NoTestRuns, Claimed, TwoRuns}
 use Rattle.rules.specs.declared.Answer.{Answer}
 use Rattle.rules.specs.declared.Code.{Code}
@@ -80,7 +80,7 @@ at-first {u} compared alike idle = record {
 
 -- ---- an accepted report
 
-is-odometer : (code : Code) → isCode Code.Odometer code ≡ true → code ≡ Code.Odometer
+pub is-odometer : (code : Code) → isCode Code.Odometer code ≡ true → code ≡ Code.Odometer
 is-odometer Code.Start e = absurd (false≢true e)
 is-odometer Code.ChangeState e = absurd (false≢true e)
 is-odometer Code.Odometer e = refl
@@ -94,10 +94,10 @@ is-odometer Code.BaliseError e = absurd (false≢true e)
 is-odometer Code.TestBrakes e = absurd (false≢true e)
 is-odometer Code.AreaEvent e = absurd (false≢true e)
 
-abbrev IsOdometer : List ℕ → Type 0
+abbrev pub IsOdometer : List ℕ → Type 0
 IsOdometer command = codeOf (codeByte command) ≡ Code.Odometer
 
-no-start : (command : List ℕ) → IsOdometer command → isStart command ≡ false
+pub no-start : (command : List ℕ) → IsOdometer command → isStart command ≡ false
 no-start command e = ap (isCode Code.Start) e
 
 -- the unit after a report, before the command is remembered
@@ -213,28 +213,19 @@ claimed u w x y runs h h′ = record {
 
 -- ---- the lists
 
--- what holds of two moments whose units are below one another holds throughout
-runs-compared : (Holds : Moment → Moment → Type 0)
-    → ((u w : Stm) (x y : Sent) → RunsBelow (stateAfter u x) (stateAfter w y) → Holds (momentOf u x) (momentOf w y))
-    → (u w : Stm) (xs ys : List Sent) → RunsBelow u w → Both Faster xs ys
+runs-compared : (u w : Stm) (xs ys : List Sent) → RunsBelow u w → Both Faster xs ys
     → Both RefusedAlike (moments u xs) (moments w ys) → Both NoServiceFault (moments u xs) (moments w ys)
-    → Both NoEmergencyFault (moments u xs) (moments w ys) → Both InGear xs ys → Both Holds (moments u xs) (moments w ys)
+    → Both NoEmergencyFault (moments u xs) (moments w ys) → Both InGear xs ys → Both Claimed (moments u xs) (moments w ys)
 unfolding moments
-runs-compared Holds at u w [] [] runs faster refused service emergency gear = tt
-runs-compared Holds at u w [] (y ∷ ys) runs faster refused service emergency gear = absurd faster
-runs-compared Holds at u w (x ∷ xs) [] runs faster refused service emergency gear = absurd faster
-runs-compared Holds at u w (x ∷ xs) (y ∷ ys) runs faster refused service emergency gear =
+runs-compared u w [] [] runs faster refused service emergency gear = tt
+runs-compared u w [] (y ∷ ys) runs faster refused service emergency gear = absurd faster
+runs-compared u w (x ∷ xs) [] runs faster refused service emergency gear = absurd faster
+runs-compared u w (x ∷ xs) (y ∷ ys) runs faster refused service emergency gear =
     let next = step-below runs (faster .0) (service .0) (emergency .0) (gear .0) (refused .0) in (
-      at u w x y next,
-      runs-compared Holds at (stateAfter u x) (stateAfter w y) xs ys next (faster .1) (refused .1) (service .1) (emergency .1) (gear .1),
+      claimed u w x y next,
+      runs-compared (stateAfter u x) (stateAfter w y) xs ys next (faster .1) (refused .1) (service .1) (emergency .1) (gear .1),
     )
 
 pub two-runs : TwoRuns
 two-runs u w xs ys compared faster units refused service emergency gear alike idle =
-    runs-compared Claimed claimed u w xs ys (at-first compared alike idle) faster refused service emergency gear
-
--- no odometer report parts the areas
-pub areas-stay-one : AreasStayOne
-areas-stay-one u w xs ys compared faster refused service emergency gear alike idle =
-    runs-compared OneArea (λ u w x y runs. runs .units .track .stay) u w xs ys (at-first compared alike idle) faster refused service
-    emergency gear
+    runs-compared u w xs ys (at-first compared alike idle) faster refused service emergency gear

@@ -166,8 +166,8 @@ ClaimGiven units refusals service emergency gear stops tests =
 abbrev pub TwoRuns : Type 0
 TwoRuns = ClaimGiven false true true true true true true
 
--- 02, F-6: no odometer report parts the areas of two units compared: with all that is presumed, after every report the two have one
--- area, one pending ground and one GMD speed
+-- 02, F-6: no odometer report parts the areas of two units compared: after every report the two have one area, one pending ground and one
+-- GMD speed. Of what is presumed this needs only that each report is refused by both or by neither
 abbrev pub OneArea : Moment → Moment → Type 0
 OneArea m n = n .stm .track .stay ≡ m .stm .track .stay
 
@@ -176,11 +176,6 @@ AreasStayOne =
     (u w : Stm) (xs ys : List Sent)
     → Compared u w → Both Faster xs ys
     → Both RefusedAlike (moments u xs) (moments w ys)
-    → Both NoServiceFault (moments u xs) (moments w ys)
-    → Both NoEmergencyFault (moments u xs) (moments w ys)
-    → Both InGear xs ys
-    → UnexpectedStopAlike u w
-    → NoTestRuns u
     → Both OneArea (moments u xs) (moments w ys)
 
 -- ---- each presumption is needed, of units too
