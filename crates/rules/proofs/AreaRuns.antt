@@ -37,7 +37,7 @@ use Rattle.rules.specs.Calls.{callOf}
 use Rattle.rules.specs.Runs.{Sent, answerTo, stateAfter, momentOf, stateAtEnd, noneAccepted, isOf, freshens}
 use Rattle.rules.specs.History.{firstOperand, movedOf, isIn, isMoving, areaIs, passesEvent, eventSpeedOf, entersByGmd, collected, groundOver, sectionAt}
 use Rattle.rules.specs.TestRuns.{isJudged}
-use Rattle.rules.specs.AreaRuns.{AreaIsWritten, isEventGiven, EventIsAnswered, EventDone, EventIsDone, FiftyMetres, ByRow, AreaChangesBy, StayStays, endsPending, GroundIsCounted, Entered, SpeedIsTheStays}
+use Rattle.rules.specs.AreaRuns.{AreaIsWritten, isEventGiven, EventIsAnswered, EventDone, EventIsDone, FiftyMetres, ByEvent, AreaChangesBy, StayStays, endsPending, GroundIsCounted, Entered, SpeedIsTheStays}
 use Rattle.rules.specs.declared.Answer.{Answer}
 use Rattle.rules.specs.declared.Code.{Code}
 use Rattle.rules.specs.declared.State.{State}
@@ -322,15 +322,15 @@ module _ (stm : Stm) (x : Sent) (e : isAccepted (answerTo stm x) ≡ true) where
   abbrev ChangedBy : Type 0
   ChangedBy =
       (isOf Code.Start (x .command) ≡ true)
-      ⊎ (ByRow stm (stateAfter stm x) (x .command) ⊎ FiftyMetres stm (stateAfter stm x) (x .command))
+      ⊎ (ByEvent stm (stateAfter stm x) (x .command) ⊎ FiftyMetres stm (stateAfter stm x) (x .command))
 
-  by-row : isOf Code.AreaEvent (x .command) ≡ true → (areaIs (stateAfter stm x) ≡ areaIs stm → ⊥) → ByRow stm (stateAfter stm x) (x .command)
-  by-row o n = by (eqb (firstOperand (x .command)) 3) refl
+  by-event : isOf Code.AreaEvent (x .command) ≡ true → (areaIs (stateAfter stm x) ≡ areaIs stm → ⊥) → ByEvent stm (stateAfter stm x) (x .command)
+  by-event o n = by (eqb (firstOperand (x .command)) 3) refl
     where
       at : areaIs (stateAfter stm x) ≡ cond (eqb (firstOperand (x .command)) 3) (areaIs stm) (enters (firstOperand (x .command)))
       at = event-is-done stm x e o .area
 
-      by : (t : Bool) → eqb (firstOperand (x .command)) 3 ≡ t → ByRow stm (stateAfter stm x) (x .command)
+      by : (t : Bool) → eqb (firstOperand (x .command)) 3 ≡ t → ByEvent stm (stateAfter stm x) (x .command)
       by true t = absurd (n (at ∙ ap (λ g. cond g (areaIs stm) (enters (firstOperand (x .command)))) t))
       by false t = record {
         event = o;
@@ -368,7 +368,7 @@ module _ (stm : Stm) (x : Sent) (e : isAccepted (answerTo stm x) ≡ true) where
   changed-by Code.Proceed c n = absurd (n (area-after Code.Proceed c))
   changed-by Code.BaliseError c n = absurd (n (area-after Code.BaliseError c))
   changed-by Code.TestBrakes c n = absurd (n (area-after Code.TestBrakes c))
-  changed-by Code.AreaEvent c n = inr (inl (by-row (ap (isCode Code.AreaEvent) c) n))
+  changed-by Code.AreaEvent c n = inr (inl (by-event (ap (isCode Code.AreaEvent) c) n))
 
 pub area-changes-by : AreaChangesBy
 area-changes-by stm x e n = changed-by stm x e (codeOf (codeByte (x .command))) refl n

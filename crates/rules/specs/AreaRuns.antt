@@ -84,7 +84,7 @@ pub record FiftyMetres (stm after : Stm) (command : List ℕ) : Type 0 where
   pub to : areaIs after ≡ 4
 
 -- an accepted 50 of a row, which is not d
-pub record ByRow (stm after : Stm) (command : List ℕ) : Type 0 where
+pub record ByEvent (stm after : Stm) (command : List ℕ) : Type 0 where
   pub event : isOf Code.AreaEvent command ≡ true
   pub row : takes (areaIs stm) (firstOperand command) ≡ true
   pub now : eqb (firstOperand command) 3 ≡ false
@@ -96,7 +96,7 @@ AreaChangesBy =
     (stm : Stm) (x : Sent)
     → isAccepted (answerTo stm x) ≡ true → (areaIs (stateAfter stm x) ≡ areaIs stm → ⊥)
     → (isOf Code.Start (x .command) ≡ true)
-    ⊎ (ByRow stm (stateAfter stm x) (x .command) ⊎ FiftyMetres stm (stateAfter stm x) (x .command))
+    ⊎ (ByEvent stm (stateAfter stm x) (x .command) ⊎ FiftyMetres stm (stateAfter stm x) (x .command))
 
 -- and where nothing pends, the whole stay stands through any list without a start and an accepted 50: no ground and no state changes it
 abbrev pub StayStays : Type 0
