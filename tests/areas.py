@@ -2,8 +2,13 @@
 """Writes a command stream that goes through F-6 of document 02: every event in every area, the 50 m from a group without overlap to the
 centimetre, VMAX in the partially equipped area, what a GMD deletes, and the area in every state."""
 
+import os
 import struct
 import sys
+
+sys.dont_write_bytecode = True
+sys.path.insert(0, os.path.dirname(os.path.abspath(__file__)))
+from chain import again, ahead, put, refused, write
 
 LAST = 0xFFFFFFFF
 DE, CS, HS, DA, FA = range(5)
@@ -14,31 +19,7 @@ SIGNAL, GMD, HT_DELETED, NO_OVERLAP, TO_NON_EQUIPPED, TO_HT, TO_FULL = EVENTS = 
 TAKEN = {SIGNAL: (NON_EQUIPPED, HT), GMD: (NON_EQUIPPED, PARTIAL), HT_DELETED: (FULL,), NO_OVERLAP: (FULL,),
          TO_NON_EQUIPPED: (PARTIAL, FULL, HT), TO_HT: (PARTIAL, NON_EQUIPPED, FULL), TO_FULL: (PARTIAL, NON_EQUIPPED, HT)}
 AT_140, AT_145 = 3889, 4028  # the least cm/s at VMAX 130 with bit 0, and with bit 1
-number = 0
-last = b""
 area = FULL
-
-
-def put(code, operands=b"", at=None):
-    """A command that is accepted."""
-    global number, last
-    number = number + 1 if at is None else at
-    last = write(code, number, operands)
-
-
-def write(code, numbered, operands=b""):
-    raw = struct.pack(">BI", code, numbered) + operands
-    sys.stdout.buffer.write(raw)
-    return raw
-
-
-def refused(code, operands=b""):
-    """A command that is refused, with the number that would be next."""
-    write(code, number + 1, operands)
-
-
-def again():
-    sys.stdout.buffer.write(last)
 
 
 def reading(speed=0, moved=0, buttons=0):
@@ -169,8 +150,8 @@ def in_each_state():
         event(GMD, speed)
     out_of_range()
     write(0x50, 0, operands(SIGNAL))
-    write(0x50, number + 2, operands(SIGNAL))
-    write(0x50, number, operands(SIGNAL))
+    write(0x50, ahead(2), operands(SIGNAL))
+    write(0x50, ahead(0), operands(SIGNAL))
     again()
     untaken(SIGNAL)
     again()
@@ -219,7 +200,7 @@ def with_others_between():
         odometer(0, moved)
         again()
         refused(0x10, reading(10001, 1200))
-        write(0x10, number + 2, reading(0, 1200))
+        write(0x10, ahead(2), reading(0, 1200))
         write(0x10, 0, reading(0, 1200))
     odometer(0, 1)
     past_50_m()
@@ -239,7 +220,7 @@ def with_others_between():
     ground(4999)
     for which, speed in ((SIGNAL, 0), (GMD, 90), (TO_FULL, 0), (7, 0), (NO_OVERLAP, 1), (HT_DELETED, 130), (TO_HT, 1)):
         untaken(which, speed)
-    write(0x50, number + 2, operands(TO_HT))
+    write(0x50, ahead(2), operands(TO_HT))
     refused(0x02, bytes([5]))
     curve(1, 500, 40)
     section(1, 190)

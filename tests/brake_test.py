@@ -10,6 +10,7 @@ import sys
 sys.dont_write_bytecode = True
 sys.path.insert(0, os.path.dirname(os.path.abspath(__file__)))
 import curve as curves
+from chain import again, ahead, put, refused, write
 
 LAST = 0xFFFFFFFF
 DE, CS, HS, DA, FA = range(5)
@@ -21,30 +22,6 @@ BOUNDARIES = ("Bf", "B", "permitted", "C", "D", "E", "F")
 TO_40 = curves.Curve(0, 0, 40, 0, 0)
 STOP = curves.Curve(1, 0, 10, 0, 0)
 MARKED = curves.MARKED
-number = 0
-last = b""
-
-
-def put(code, operands=b"", at=None):
-    """A command that is accepted."""
-    global number, last
-    number = number + 1 if at is None else at
-    last = write(code, number, operands)
-
-
-def write(code, numbered, operands=b""):
-    raw = struct.pack(">BI", code, numbered) + operands
-    sys.stdout.buffer.write(raw)
-    return raw
-
-
-def refused(code, operands=b""):
-    """A command that is refused, with the number that would be next."""
-    write(code, number + 1, operands)
-
-
-def again():
-    sys.stdout.buffer.write(last)
 
 
 def reading(half=STEADY, speed=0, moved=0, buttons=0):
@@ -103,7 +80,7 @@ def answers():
     again()
     refused(0x40)
     write(0x40, 0)
-    write(0x40, number + 2)
+    write(0x40, ahead(2))
     again()
     # refused commands leave it running: to HS and to DE, no reference for DA, no such state, a flag that is none
     for to in (HS, DE, DA, 5):
@@ -117,14 +94,14 @@ def answers():
         state(to)
         refused(0x40)
         write(0x40, 0)
-        write(0x40, number + 2)
+        write(0x40, ahead(2))
     odometers(31)
     state(DA)
     refused(0x40)
     state(FA)
     refused(0x40)
     write(0x40, 0)
-    write(0x40, number + 2)
+    write(0x40, ahead(2))
     again()
     # the last number of all
     put(0x01, train(), at=LAST - 1)
