@@ -6,11 +6,11 @@ use native.Mathlib.Nat.{zero-add, add-zero}
 use mathlib.Core.Bool.{Bool, true, false, cond, not, _&&_}
 use mathlib.Core.List.{List, [], _∷_}
 use native.Mathlib.Decide.{decLe}
-use lib.Dec.{eqb, leb}
+use lib.Dec.{eqb}
 use borrow.Author.Tests.{ne-eqb, le-leb, lt-leb}
-use Rattle.areas.specs.Numbers.{areaNumber, isArea, eventNumber, eventOf, isEvent}
+use Rattle.areas.specs.Numbers.{areaNumber, eventNumber, eventOf}
 use Rattle.areas.specs.Rows.{targetOf}
-use Rattle.areas.specs.Stays.{begunStay, freshStay, withOverlap, clearedStay, lineBy, missed, passedStay, deletesSections, coveredBy, coveredStay, lineSpeed, areaSpeed}
+use Rattle.areas.specs.Stays.{begunStay, withOverlap, lineBy, missed, passedStay, deletesSections, coveredBy, coveredStay, lineSpeed, areaSpeed}
 use Rattle.areas.specs.Claims.{NumbersAreTold, EventIsFollowed, OnlyInPartialArea, EnteringGmdDeletes, coveredAll, sum, GroupWaits, SecondGroupMovesNothing, GroundAloneIsNothing, CSKeepsArea, StartsInFull}
 use Rattle.areas.specs.declared.Area.{Area}
 use Rattle.areas.specs.declared.Event.{Event}

@@ -1,7 +1,7 @@
 -- What is promised of areas and stays (02, F-6), in the paper's numbers and over any ground. Proved in proofs/.
 use mathlib.Core.Path.{_≡_}
 use Prim.Native.Nat.{ℕ, _+_, _≤_, _<_}
-use mathlib.Core.Bool.{Bool, true, false, cond, not, _&&_, _||_}
+use mathlib.Core.Bool.{Bool, true, cond, not, _&&_, _||_}
 use mathlib.Core.List.{List, [], _∷_, map, foldr}
 use lib.Dec.{eqb}
 use Rattle.areas.specs.Numbers.{areaNumber, eventNumber, eventOf}

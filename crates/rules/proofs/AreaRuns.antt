@@ -19,7 +19,7 @@ use Rattle.areas.specs.declared.Event.{Event}
 use Rattle.areas.specs.declared.LineSpeed.{LineSpeed}
 use Rattle.areas.specs.declared.Overlap.{Overlap}
 use Rattle.areas.specs.declared.Stay.{Stay}
-use Rattle.areas.specs.Numbers.{areaNumber, isArea, eventNumber, eventOf, isEvent}
+use Rattle.areas.specs.Numbers.{areaNumber, isArea, eventNumber, eventOf}
 use Rattle.areas.specs.Rows.{isTaken, targetOf}
 use Rattle.areas.specs.Stays.{begunStay, withOverlap, lineBy, missed, passedStay, coveredBy, coveredStay}
 use Rattle.areas.specs.Claims.{takes, enters}
@@ -34,17 +34,17 @@ use Rattle.rules.specs.Reports.{reportOutside, reportFor, reportOf}
 use Rattle.rules.specs.Commands.{carriedOut}
 use Rattle.rules.specs.Refusals.{isStart, isRepeat, isNext, endsNothing, findsNoPlace, testsOutside, testsTwice, isUntaken, firstOf, rulesFor, wholeAnswer, answerFor, answerOf}
 use Rattle.rules.specs.Calls.{callOf}
-use Rattle.rules.specs.Runs.{Sent, answerTo, stateAfter, momentOf, stateAtEnd, noneAccepted, isOf, freshens}
-use Rattle.rules.specs.History.{firstOperand, movedOf, isIn, isMoving, areaIs, passesEvent, eventSpeedOf, entersByGmd, collected, groundOver, sectionAt}
+use Rattle.rules.specs.Runs.{Sent, answerTo, stateAfter, stateAtEnd, noneAccepted, isOf, freshens}
+use Rattle.rules.specs.History.{firstOperand, movedOf, isIn, isMoving, areaIs, passesEvent, eventSpeedOf, entersByGmd, collected, groundOver}
 use Rattle.rules.specs.TestRuns.{isJudged}
-use Rattle.rules.specs.AreaRuns.{AreaIsWritten, isEventGiven, EventIsAnswered, EventDone, EventIsDone, FiftyMetres, ByEvent, AreaChangesBy, StayStays, endsPending, GroundIsCounted, Entered, SpeedIsTheStays}
+use Rattle.rules.specs.AreaRuns.{AreaIsWritten, isEventGiven, EventIsAnswered, EventDone, EventIsDone, FiftyMetres, ByEvent, AreaChangesBy, StayStays, endsPending, GroundIsCounted, SpeedIsTheStays}
 use Rattle.rules.specs.declared.Answer.{Answer}
 use Rattle.rules.specs.declared.Code.{Code}
 use Rattle.rules.specs.declared.State.{State}
 use Rattle.rules.specs.declared.Stm.{Stm}
 use Rattle.rules.proofs.Answers.{after-other}
-use Rattle.rules.proofs.Tests.{impossible, both, neither, either, second-fails}
-use Rattle.rules.proofs.Told.{code-is, state-is}
+use Rattle.rules.proofs.Tests.{impossible, both, neither, second-fails}
+use Rattle.rules.proofs.Told.{code-is}
 use Rattle.rules.proofs.Ordering.{doneBy, brakes-after}
 use Rattle.rules.proofs.Standing.{kept-to-end}
 use Rattle.rules.proofs.After.{control-after, train-after, track-after, feedback-after, test-after, kept-after}

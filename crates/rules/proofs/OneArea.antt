@@ -9,7 +9,7 @@ use Rattle.rules.specs.Operands.{numberOf, readingOf}
 use Rattle.rules.specs.Commands.{remembered, acceptedOf}
 use Rattle.rules.specs.Runs.{Sent, answerTo, stateAfter, momentOf, moments}
 use Rattle.rules.specs.History.{isIn, isSupervised}
-use Rattle.rules.specs.TwoRuns.{Compared, Both, Faster, RefusedAlike, OneArea, AreasStayOne}
+use Rattle.rules.specs.TwoRuns.{Both, Faster, RefusedAlike, OneArea, AreasStayOne}
 use Rattle.rules.specs.declared.Code.{Code}
 use Rattle.rules.specs.declared.State.{State}
 use Rattle.rules.specs.declared.Stm.{Stm}

@@ -1,8 +1,8 @@
 -- The stay in an area stays sound: a GMD's speed in range and in the partial area, a pending ground below 50 m and in the fully equipped.
 -- Assumes nothing.
-use mathlib.Core.Path.{_≡_, refl, sym, _∙_, ap}
+use mathlib.Core.Path.{_≡_, refl, sym, _∙_}
 use Prim.Native.Nat.{ℕ, _+_}
-use mathlib.Core.Bool.{Bool, true, false, cond, _&&_}
+use mathlib.Core.Bool.{true, _&&_}
 use lib.Dec.{leb, ltb}
 use borrow.Author.Tests.{leb-false, lt-ltb}
 use Rattle.areas.specs.declared.Area.{Area}
@@ -12,7 +12,7 @@ use Rattle.areas.specs.declared.Overlap.{Overlap}
 use Rattle.areas.specs.declared.Stay.{Stay}
 use Rattle.areas.specs.Numbers.{isArea, isEvent}
 use Rattle.areas.specs.Rows.{isTaken, targetOf}
-use Rattle.areas.specs.Stays.{begunStay, withOverlap, clearedStay, lineBy, missed, passedStay, coveredStay}
+use Rattle.areas.specs.Stays.{begunStay, clearedStay, lineBy, missed, passedStay, coveredStay}
 use Rattle.areas.proofs.Told.{taken-by, target-by}
 use Rattle.rules.specs.Operands.{within}
 use Rattle.rules.specs.Units.{isLineSound, isOverlapSound, isStaySound}

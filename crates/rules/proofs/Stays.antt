@@ -1,7 +1,7 @@
 -- The stay in an area after one accepted command. Assumes nothing.
 use mathlib.Core.Path.{_≡_, refl, sym, _∙_, ap}
 use Prim.Native.Nat.{ℕ, _≤_}
-use mathlib.Core.Bool.{Bool, true, false, _&&_}
+use mathlib.Core.Bool.{true}
 use mathlib.Core.List.{List}
 use lib.Dec.{leb}
 use borrow.Author.Tests.{leb-true}
@@ -19,7 +19,7 @@ use Rattle.rules.specs.Places.{emptyTrack, freshTrack, clearedTrack, pas
 use Rattle.rules.specs.Odometer.{notedTrack}
 use Rattle.rules.specs.Commands.{freshWith, entered, stopped, carriedOut}
 use Rattle.rules.specs.Refusals.{isUntaken}
-use Rattle.rules.specs.Runs.{Sent, answerTo, stateAfter, isOf}
+use Rattle.rules.specs.Runs.{Sent, answerTo, stateAfter}
 use Rattle.rules.specs.History.{firstOperand}
 use Rattle.rules.specs.declared.Code.{Code}
 use Rattle.rules.specs.declared.State.{State}
@@ -27,7 +27,6 @@ use Rattle.rules.specs.declared.Reading.{Reading}
 use Rattle.rules.specs.declared.Stm.{Stm}
 use Rattle.rules.proofs.Answers.{passed}
 use Rattle.rules.proofs.Tests.{and-left}
-use Rattle.rules.proofs.Told.{code-is}
 use Rattle.rules.proofs.After.{track-after, trackIn, reported-track}
 use Rattle.rules.proofs.Keeps.{taken-there}
 

@@ -9,7 +9,6 @@ use Rattle.wire.specs.Report.{areaIn}
 use Rattle.areas.specs.declared.Area.{Area}
 use Rattle.areas.specs.declared.LineSpeed.{LineSpeed}
 use Rattle.areas.specs.declared.Overlap.{Overlap}
-use Rattle.areas.specs.declared.Stay.{Stay}
 use Rattle.areas.specs.Claims.{takes, enters}
 use Rattle.rules.specs.Numbers.{answerNumber, isAccepted}
 use Rattle.rules.specs.Operands.{within}
