@@ -23,9 +23,12 @@ const PROCEED: u8 = 0x31;
 const BALISE_ERROR: u8 = 0x32;
 const TEST_BRAKES: u8 = 0x40;
 const AREA_EVENT: u8 = 0x50;
+const RECORD: u8 = 0x51;
+const SIGNAL_PASSED: u8 = 0x52;
+const RECORD_END: u8 = 0x53;
 
 /// Every code with its whole length in bytes.
-const LENGTHS: [(u8, usize); 12] = [
+const LENGTHS: [(u8, usize); 15] = [
     (START, 24),
     (STATE, 6),
     (ODOMETER, 14),
@@ -38,6 +41,9 @@ const LENGTHS: [(u8, usize); 12] = [
     (BALISE_ERROR, 5),
     (TEST_BRAKES, 5),
     (AREA_EVENT, 8),
+    (RECORD, 12),
+    (SIGNAL_PASSED, 7),
+    (RECORD_END, 6),
 ];
 const LONGEST: usize = 24;
 
@@ -128,6 +134,40 @@ enum Event {
     Entry(Area),
 }
 
+/// The kinds of signal (F-7).
+#[derive(Clone, Copy, PartialEq, Eq, Debug)]
+enum Signal {
+    Main,
+    Distant,
+}
+
+#[derive(Clone, Copy, PartialEq, Eq, Debug)]
+enum Route {
+    /// R.
+    Straight,
+    /// G.
+    Diverging,
+}
+
+/// The conditions of an ET record that is held; a terminated one is not (001, table 4.6-2).
+#[derive(Clone, Copy, PartialEq, Eq, Debug)]
+enum Condition {
+    Undecided { ground: i64 },
+    DefinitelyActive,
+    PreliminaryPassive,
+    PreliminaryActive,
+    Locked,
+}
+
+/// An ET record of the category of a route and of the kind of signal that controls it, with the curve that it may become.
+#[derive(Clone, Copy)]
+struct Record {
+    route: Route,
+    controlled_by: Signal,
+    condition: Condition,
+    curve: Curve,
+}
+
 enum Command {
     Start(Train),
     State(State),
@@ -141,6 +181,9 @@ enum Command {
     BaliseError,
     TestBrakes,
     AreaEvent(Event),
+    Record(Record),
+    SignalPassed(Signal, Route),
+    RecordEnd(u8),
 }
 
 fn wide(bytes: &[u8], at: usize) -> i64 {
@@ -247,6 +290,47 @@ fn decode(code: u8, o: &[u8]) -> Option<Command> {
         BALISE_ERROR => Some(Command::BaliseError),
         TEST_BRAKES => Some(Command::TestBrakes),
         AREA_EVENT => event_of(o[0], wide(o, 1)).map(Command::AreaEvent),
+        RECORD => {
+            let (route, controlled_by) = match o[1] {
+                0 => (Route::Straight, Signal::Distant),
+                1 => (Route::Straight, Signal::Main),
+                2 => (Route::Diverging, Signal::Distant),
+                3 => (Route::Diverging, Signal::Main),
+                _ => return None,
+            };
+            let curve = Curve {
+                id: o[0],
+                stop: false,
+                distance: 100 * wide(o, 2),
+                speed: wide(o, 4),
+                gradient: i64::from(o[6] as i8),
+                past_b: false,
+            };
+            let good = id_ok(curve.id)
+                && wide(o, 2) <= 10_000
+                && (10..=300).contains(&curve.speed)
+                && (-30..=30).contains(&curve.gradient);
+            good.then_some(Command::Record(Record {
+                route,
+                controlled_by,
+                condition: Condition::Undecided { ground: 0 },
+                curve,
+            }))
+        }
+        SIGNAL_PASSED => {
+            let kind = match o[0] {
+                0 => Signal::Main,
+                1 => Signal::Distant,
+                _ => return None,
+            };
+            let route = match o[1] {
+                0 => Route::Straight,
+                1 => Route::Diverging,
+                _ => return None,
+            };
+            Some(Command::SignalPassed(kind, route))
+        }
+        RECORD_END => id_ok(o[0]).then_some(Command::RecordEnd(o[0])),
         _ => None,
     }
 }
@@ -534,6 +618,53 @@ impl Area {
     }
 }
 
+// ---------------------------------------------------------------- ET records
+
+const RECORD_PLACES: usize = 8;
+/// cm after which a record is locked that no controlling signal has decided.
+const EVALUATION: i64 = 10_000;
+
+impl Record {
+    /// What a passed signal makes of a record: `None` if it is terminated.
+    fn after(self, kind: Signal, route: Route) -> Option<Record> {
+        let undecided = matches!(self.condition, Condition::Undecided { .. });
+        if !undecided || kind != self.controlled_by {
+            return Some(self);
+        }
+        let condition = match (kind, route == self.route) {
+            (Signal::Main, false) => return None,
+            (Signal::Main, true) => Condition::DefinitelyActive,
+            (Signal::Distant, false) => Condition::PreliminaryPassive,
+            (Signal::Distant, true) => Condition::PreliminaryActive,
+        };
+        Some(Record { condition, ..self })
+    }
+
+    fn move_by(&mut self, moved: i64) {
+        self.curve.distance = (self.curve.distance - moved).max(0);
+        if let Condition::Undecided { ground } = self.condition {
+            self.condition = if ground + moved >= EVALUATION {
+                Condition::Locked
+            } else {
+                Condition::Undecided { ground: ground + moved }
+            };
+        }
+    }
+
+    /// Whether a repeater may take its place.
+    fn gives_way(&self) -> bool {
+        matches!(
+            self.condition,
+            Condition::DefinitelyActive | Condition::PreliminaryActive
+        )
+    }
+
+    /// Whether it counts as a curve.
+    fn supervised(&self) -> bool {
+        self.gives_way() || self.condition == Condition::Locked
+    }
+}
+
 // ---------------------------------------------------------------- unit
 
 const OVERSPEED: u16 = 1 << 0;
@@ -575,6 +706,7 @@ struct Unit {
     speed: i64,
     buttons: u8,
     curves: Vec<Curve>,
+    records: Vec<Record>,
     sections: Vec<Section>,
     /// The 40 after an unexpected stop.
     forty: bool,
@@ -610,6 +742,7 @@ impl Unit {
             speed: 0,
             buttons: LOSS | TEXT | HALKA | NEUTRAL,
             curves: Vec::with_capacity(PLACES),
+            records: Vec::with_capacity(RECORD_PLACES),
             sections: Vec::with_capacity(PLACES),
             forty: false,
             causes: 0,
@@ -630,7 +763,7 @@ impl Unit {
         }
     }
 
-    /// Refusals 10 to 16.
+    /// Refusals 10 to 18.
     fn refusal(&self, command: &Command) -> Option<u8> {
         let in_da = self.state == State::Da;
         let in_hs_or_da = in_da || self.state == State::Hs;
@@ -643,7 +776,10 @@ impl Unit {
             | Command::Section(_)
             | Command::SectionEnd(_)
             | Command::Proceed
-            | Command::AreaEvent(_) => in_hs_or_da,
+            | Command::AreaEvent(_)
+            | Command::Record(_)
+            | Command::SignalPassed(..)
+            | Command::RecordEnd(_) => in_hs_or_da,
         };
         if !allowed {
             return Some(10);
@@ -673,8 +809,18 @@ impl Unit {
             Command::TestBrakes if self.state != State::De => Some(14),
             Command::TestBrakes if self.test.is_some() => Some(15),
             Command::AreaEvent(event) if !self.area.takes(*event) => Some(16),
+            Command::Record(new) => match self.record(new.curve.id) {
+                None if self.records.len() == RECORD_PLACES => Some(17),
+                Some(held) if !held.gives_way() => Some(18),
+                _ => None,
+            },
+            Command::RecordEnd(id) if self.record(*id).is_none() => Some(12),
             _ => None,
         }
+    }
+
+    fn record(&self, id: u8) -> Option<&Record> {
+        self.records.iter().find(|r| r.curve.id == id)
     }
 
     fn path_to(&self, next: State) -> bool {
@@ -742,6 +888,16 @@ impl Unit {
             }
             Command::TestBrakes => self.test = Some(BrakeTest::Settling(Phase::Waiting)),
             Command::AreaEvent(event) => self.pass(event),
+            Command::Record(new) => {
+                self.records.retain(|r| r.curve.id != new.curve.id);
+                self.records.push(new);
+            }
+            Command::SignalPassed(kind, route) => {
+                let held = std::mem::take(&mut self.records);
+                self.records
+                    .extend(held.into_iter().filter_map(|r| r.after(kind, route)));
+            }
+            Command::RecordEnd(id) => self.records.retain(|r| r.curve.id != id),
         }
     }
 
@@ -776,6 +932,7 @@ impl Unit {
         }
         if next == State::Cs {
             self.curves.clear();
+            self.records.clear();
             self.sections.clear();
             self.forty = false;
             self.causes = 0;
@@ -841,6 +998,9 @@ impl Unit {
         for curve in &mut self.curves {
             curve.distance = (curve.distance - moved).max(0);
         }
+        for record in &mut self.records {
+            record.move_by(moved);
+        }
         for section in &mut self.sections {
             section.ending = section.ending.map(|ground| ground + moved);
         }
@@ -886,7 +1046,8 @@ impl Unit {
         let halka = self.halka();
         let insufficient = self.insufficient();
         let mut braking = false;
-        for curve in &mut self.curves {
+        let records = self.records.iter_mut().filter(|r| r.supervised());
+        for curve in self.curves.iter_mut().chain(records.map(|r| &mut r.curve)) {
             let interval = curve.interval(&self.train, halka, v);
             if interval >= B {
                 curve.past_b = true;
@@ -1055,13 +1216,15 @@ impl Unit {
         let halka = self.halka();
         let mut permitted = vmax;
         let mut braking = false;
-        let mut shown: Option<((Reverse<u8>, i64, u8), &Curve)> = None;
-        for curve in &self.curves {
+        let mut shown: Option<((Reverse<u8>, i64, bool, u8), &Curve)> = None;
+        let records = self.records.iter().filter(|r| r.supervised());
+        let supervised = self.curves.iter().map(|c| (false, c));
+        for (is_record, curve) in supervised.chain(records.map(|r| (true, &r.curve))) {
             let interval = curve.interval(&self.train, halka, self.speed);
             let own = curve.permitted(&self.train, halka);
             permitted = permitted.min(own);
             braking |= curve.brakes(interval, self.speed);
-            let rank = (Reverse(interval), own, curve.id);
+            let rank = (Reverse(interval), own, is_record, curve.id);
             if shown.is_none_or(|(best, _)| rank < best) {
                 shown = Some((rank, curve));
             }
@@ -1071,7 +1234,7 @@ impl Unit {
         report[2..4].copy_from_slice(&self.causes.to_be_bytes());
         report[4..6].copy_from_slice(&(permitted as u16).to_be_bytes());
         report[6..8].copy_from_slice(&(vmax as u16).to_be_bytes());
-        if let Some(((Reverse(computed), _, id), curve)) = shown {
+        if let Some(((Reverse(computed), _, is_record, id), curve)) = shown {
             let interval = if curve.past_b && computed <= BF {
                 AB
             } else {
@@ -1085,6 +1248,7 @@ impl Unit {
                 _ => 2,
             };
             report[11] = self.mode(interval, curve);
+            report[12] |= u8::from(is_record) << 6;
             let change = curve.to_change(&self.train, halka, self.speed);
             report[14..18].copy_from_slice(&change.to_be_bytes());
         }
@@ -1675,5 +1839,117 @@ mod tests {
         assert_eq!(told(&mut unit, Event::Gmd(100)), (4, 100));
         unit.obey(section());
         assert_eq!(told(&mut unit, Event::Gmd(110)), (4, 50));
+    }
+
+    fn record(id: u8, category: u8, metres: u16, speed: u16) -> Command {
+        let (d, k) = (metres.to_be_bytes(), speed.to_be_bytes());
+        decode(RECORD, &[id, category, d[0], d[1], k[0], k[1], 0]).unwrap()
+    }
+
+    fn signal(kind: u8, route: u8) -> Command {
+        decode(SIGNAL_PASSED, &[kind, route]).unwrap()
+    }
+
+    fn given(unit: &mut Unit, command: Command) -> u8 {
+        let refusal = unit.refusal(&command);
+        if refusal.is_none() {
+            unit.obey(command);
+        }
+        refusal.unwrap_or(0)
+    }
+
+    /// The shown id, the message that it is a record's, the permitted speed and the causes.
+    fn said(unit: &Unit) -> (u8, bool, u8, u16) {
+        let report = unit.report();
+        (report[8], report[12] & 64 != 0, report[5], unit.causes)
+    }
+
+    #[test]
+    fn signals_decide_by_the_table() {
+        use Condition::*;
+        // Categories RF, RH, GF, GH; signals main R, main G, distant R, distant G.
+        let undecided = Some(Undecided { ground: 0 });
+        let table = [
+            [undecided, undecided, Some(PreliminaryActive), Some(PreliminaryPassive)],
+            [Some(DefinitelyActive), None, undecided, undecided],
+            [undecided, undecided, Some(PreliminaryPassive), Some(PreliminaryActive)],
+            [None, Some(DefinitelyActive), undecided, undecided],
+        ];
+        for (category, row) in (0..).zip(table) {
+            for (number, condition) in (0..).zip(row) {
+                let mut unit = fast_unit();
+                assert_eq!(given(&mut unit, record(9, category, 500, 40)), 0);
+                assert_eq!(given(&mut unit, signal(number / 2, number % 2)), 0);
+                assert_eq!(unit.record(9).map(|r| r.condition), condition);
+                // No later signal touches what is decided.
+                if condition != undecided {
+                    for later in 0..4 {
+                        unit.obey(signal(later / 2, later % 2));
+                    }
+                    assert_eq!(unit.record(9).map(|r| r.condition), condition);
+                }
+            }
+        }
+    }
+
+    #[test]
+    fn a_record_locks_at_100_m() {
+        for (last, locked) in [(399, false), (400, true), (401, true)] {
+            let mut unit = fast_unit();
+            unit.obey(record(9, 0, 90, 40));
+            for _ in 0..8 {
+                unit.obey(odometer(2500, 1200, 0, 0));
+                assert_eq!(said(&unit), (255, false, 200, 0));
+            }
+            unit.obey(odometer(2500, last, 0, 0));
+            assert_eq!(unit.record(9).unwrap().curve.distance, 0);
+            if locked {
+                assert_eq!(said(&unit), (9, true, 40, CURVE_FULL | CURVE_EMERGENCY));
+            } else {
+                assert_eq!(said(&unit), (255, false, 200, 0));
+            }
+        }
+    }
+
+    #[test]
+    fn eight_records_and_repeaters() {
+        let mut unit = fast_unit();
+        for id in 0..8 {
+            assert_eq!(given(&mut unit, record(id, id % 4, 5000, 40)), 0);
+        }
+        assert_eq!(given(&mut unit, record(8, 0, 5000, 40)), 17);
+        assert_eq!(given(&mut unit, record(7, 0, 5000, 40)), 18);
+        unit.obey(signal(0, 0));
+        // Ids 3 and 7, of GH, are terminated; 1 and 5, of RH, are active.
+        assert_eq!(unit.records.len(), 6);
+        assert_eq!(given(&mut unit, record(5, 2, 4000, 90)), 0);
+        assert_eq!(given(&mut unit, record(5, 2, 4000, 90)), 18);
+        assert_eq!(given(&mut unit, record(8, 0, 5000, 40)), 0);
+        assert_eq!(given(&mut unit, record(3, 0, 5000, 40)), 0);
+        assert_eq!(given(&mut unit, record(7, 0, 5000, 40)), 17);
+        assert_eq!(given(&mut unit, Command::RecordEnd(7)), 12);
+        assert_eq!(given(&mut unit, Command::CurveEnd(5)), 12);
+        assert_eq!(given(&mut unit, Command::RecordEnd(5)), 0);
+        unit.obey(Command::State(State::Cs));
+        assert!(unit.records.is_empty());
+    }
+
+    #[test]
+    fn a_curve_is_shown_before_a_record() {
+        for (of_curve, of_record) in [(3, 7), (7, 3)] {
+            let mut unit = fast_unit();
+            unit.obey(record(of_record, 1, 2000, 40));
+            unit.obey(signal(0, 0));
+            unit.obey(Command::Curve(Curve {
+                id: of_curve,
+                ..curve(false, 200_000, 40)
+            }));
+            unit.obey(odometer(2500, 0, 0, 0));
+            assert_eq!(said(&unit).0, of_curve);
+            assert!(!said(&unit).1);
+            unit.obey(Command::CurveEnd(of_curve));
+            assert_eq!(said(&unit).0, of_record);
+            assert!(said(&unit).1);
+        }
     }
 }
