@@ -119,6 +119,9 @@ STATES = {"DE": 0, "CS": 1, "HS": 2, "DA": 3, "FA": 4}
 KINDS = {"target": 0, "stop": 1}
 STOPS = {"aimed-at": 0, "unexpected": 1, "landslide": 2}
 EVENTS = {"signal": 0, "GMD": 1, "HT-deleted": 2, "no-overlap": 3, "non-equipped": 4, "HT": 5, "fully-equipped": 6}
+CATEGORIES = {"RF": 0, "RH": 1, "GF": 2, "GH": 3}
+SIGNALS = {"main": 0, "distant": 1}
+ROUTES = {"R": 0, "G": 1}
 IDENT = Operand("id", "id", 1, ((0, 254),), bare=True, read="{}")
 
 FLAGS = Operand("flags", "flags", 1, ((0, 7),), default=0, bits=("soft-braking", "cylinder", "no-etcs-test"), read="{}", quiet=0)
@@ -217,6 +220,18 @@ COMMANDS = (
         Operand("speed", "speed of another event", 2, ((0, 0),), LIMIT, 0, stands_when=("event", (0, *range(2, 256))),
                 read="speed {}", quiet=0),
     )),
+    Command(0x51, "ET record", "record", (
+        IDENT,
+        Operand("category", "category", 1, ((0, 3),), words=CATEGORIES, bare=True, read="{}"),
+        Operand("at", "target distance", 2, ((0, 10000),), METRES, read="at {}"),
+        Operand("target", "speed", 2, ((10, 300),), LIMIT, read="target {}"),
+        Operand("gradient", "gradient", 1, ((-30, 30),), GRADIENT, 0, signed=True, read="gradient {}", quiet=0),
+    )),
+    Command(0x52, "signal passed", "signal", (
+        Operand("kind", "kind of the signal", 1, ((0, 1),), words=SIGNALS, bare=True, read="{}"),
+        Operand("route", "its route", 1, ((0, 1),), words=ROUTES, bare=True, read="route {}"),
+    )),
+    Command(0x53, "ET record end", "record end", (IDENT,)),
 )
 
 BY_CODE = {command.code: command for command in COMMANDS}
@@ -245,6 +260,8 @@ ANSWERS = {
     14: "a brake test is taken in DE only",
     15: "a brake test runs already",
     16: "the event is not taken in this area",
+    17: "all 8 places of ET records are held",
+    18: "the ET record that is held gives way to no repeater",
 }
 
 
@@ -284,6 +301,7 @@ CAUSES = (
     "service brake fault",
 )
 
+ET_SHOWN = "ET record shown"
 AREAS = {7: "non-equipped", 4: "partially equipped", 9: "HT", 8: "fully equipped"}
 
 
@@ -303,7 +321,7 @@ REPORT = (
     Field("bar", 1, words=counted("no bar", "light grey bar", "yellow bar"), empty=0),
     Field("mode", 1, words=counted("normal", "pre-indication", "indication", "warning", "intervention"), empty=0),
     Field("messages", 1, bits=("DRIFTBROMSFEL", "NÖDBROMSFEL", "TRYCKGIVARFEL", "brake test runs", "last brake test passed",
-                               "last brake test failed"), empty=0),
+                               "last brake test failed", ET_SHOWN), empty=0),
     Field("release offered", 1, bits=("LOSS", "text"), empty=0),
     Field("next change", 4, empty=0xFFFFFFFF),
     Field("area", 1, words=AREAS, empty=8),

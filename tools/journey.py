@@ -19,9 +19,9 @@ class Point(NamedTuple):
 
 
 class Target(NamedTuple):
-    """The target of a curve that was held: a speed in km/h, or 0 and a release speed."""
+    """The target of a curve or an ET record that was held: a speed in km/h, or 0 and a release speed."""
 
-    ident: int
+    name: str
     ground: int
     speed: int
     release: Any
@@ -66,8 +66,8 @@ class Journey:
             self.mark("command", command_text(portion))
         if portion.command.name == "start":
             self.buttons = None
-        if portion.command.name == "curve":
-            self.aim(portion.values)
+        if portion.command.name in ("curve", "ET record"):
+            self.aim(portion.command.name, portion.values)
         if report["order"] != self.order:
             self.mark("order", order_text(report))
             self.order = report["order"]
@@ -89,9 +89,9 @@ class Journey:
                 self.mark("press", LEFT[name])
         self.buttons = values["buttons"]
 
-    def aim(self, values):
+    def aim(self, kind, values):
         ground = self.ground + 100 * values["at"]
-        target = Target(values["id"], ground, values.get("target", 0), values.get("release"))
+        target = Target(f"{kind} {values['id']}", ground, values.get("target", 0), values.get("release"))
         if target not in self.targets:
             self.targets.append(target)
 

@@ -277,11 +277,11 @@ class Picture:
             x, y = self.x(target.ground), self.y(target.speed)
             if target.release is None:
                 self.mark("target", x, y)
-                words = f"curve {target.ident}: {target.speed} km/h"
+                words = f"{target.name}: {target.speed} km/h"
             else:
                 self.line("release", [(x - 5, self.y(target.release)), (x + 5, self.y(target.release))])
                 self.mark("stop", x, y)
-                words = f"curve {target.ident}: stop"
+                words = f"{target.name}: stop"
             if target.ground > 100 * self.metres:
                 words += f" at {target.ground / 100:,.0f} m →"
             self.boxes.append(Box(x - 7, y - 7, x + 7, y + 7))

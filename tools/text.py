@@ -27,7 +27,7 @@ class Sent(NamedTuple):
     raw: bytes
 
 
-WORDS = {name: command for command in COMMANDS for name in (command.word, command.name)}
+WORDS = {name.lower(): command for command in COMMANDS for name in (command.word, command.name)}
 MOST = 100000  # how often a line may be taken
 
 
@@ -89,7 +89,7 @@ def check(operand, value, values, force, shown=None):
 
 def command_of(words):
     """The command that the first words name, and the words after them."""
-    for count in (2, 1):
+    for count in (3, 2, 1):
         command = WORDS.get(" ".join(words[:count]).lower())
         if command and len(words) >= count:
             return command, words[count:]

@@ -1,6 +1,6 @@
 """Commands, reports and refusals in words, as `tools/read` and `tools/draw` show them."""
 
-from commands import ANSWERS, FIELDS, OUT_OF_RANGE, WRONG_NUMBER
+from commands import ANSWERS, ET_SHOWN, FIELDS, OUT_OF_RANGE, WRONG_NUMBER
 
 
 # ---------------------------------------------------------------- a command in words
@@ -27,11 +27,16 @@ def order_text(report):
 
 
 def curve_text(report):
-    """'curve 1 in D, yellow bar, mode 4 intervention'"""
+    """'curve 1 in D, yellow bar, mode 4 intervention', or 'ET record 1 in D, ..'"""
     if report["shown id"] == FIELDS["shown id"].empty:
         return "no curve"
     interval, bar, mode = (FIELDS[name].text(report[name]) for name in ("interval", "bar", "mode"))
-    return f"curve {report['shown id']} in {interval}, {bar}, mode {report['mode']} {mode}"
+    kind = "ET record" if ET_SHOWN in messages_of(report) else "curve"
+    return f"{kind} {report['shown id']} in {interval}, {bar}, mode {report['mode']} {mode}"
+
+
+def messages_of(report):
+    return [name for _, name in FIELDS["messages"].set_bits(report["messages"])]
 
 
 def change_text(report):
@@ -68,8 +73,8 @@ def report_text(report):
         parts.append(change_text(report))
     if in_da or report["release offered"]:
         parts.append(release_text(report))
-    messages = [name for _, name in FIELDS["messages"].set_bits(report["messages"])]
-    return ", ".join(parts + messages)
+    is_told = report["shown id"] != FIELDS["shown id"].empty  # that it is an ET record
+    return ", ".join(parts + [name for name in messages_of(report) if not (is_told and name == ET_SHOWN)])
 
 
 # ---------------------------------------------------------------- a refusal in words
