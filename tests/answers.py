@@ -27,6 +27,11 @@ DA = "0300000000A000A0FF0000000000FFFFFFFF08"
 DA_130 = "0300000000820082FF0000000000FFFFFFFF04"
 DA_90 = "03000000005A005AFF0000000000FFFFFFFF04"
 TO_FA = "020000000204"
+# In DA an ET record 7 at its target of 40: at a stand; at 90 km/h in F; and what stands of that when the record is undecided, and with a curve 7.
+AT_TARGET = "03000000002800A00701000040" + "00FFFFFFFF08"
+IN_F = "03030014002800A00708020440" + "00FFFFFFFF08"
+UNDECIDED = "0303001400A000A0FF00000000" + "01FFFFFFFF08"
+CURVE_IN_F = "03030014002800A00708020400" + "00FFFFFFFF08"
 
 CASES = [
     # 1 comes before 2, 3 and 4, and before any repeat; the area is left alone at every length.
@@ -182,6 +187,142 @@ CASES = [
     (19, "500000002301005A", 0, DA_90, True),
     (19, "5000000024020000", 16, None, True),
     (19, "500000002301005A", 100, DA_90, True),
+    # ET records, signals and their ends want HS or DA: 9 comes before 10, and 10 before 12.
+    (19, START, 0, DE, True),
+    (19, "510000000207010064002800", 10, None, True),
+    (19, "52000000020000", 10, None, True),
+    (19, "530000000207", 10, None, True),
+    (19, "510000000207040064002800", 9, None, True),
+    (19, "52000000020200", 9, None, True),
+    (19, "5300000002FF", 9, None, True),
+    (19, "020000000201", 0, CS, True),
+    (19, "510000000307010064002800", 10, None, True),
+    (19, "52000000030101", 10, None, True),
+    (19, "530000000307", 10, None, True),
+    (19, "51000000030701006400280000", 4, None, False),
+    (19, "020000000302", 0, HS, True),
+    # Their lengths are 12, 7 and 6.
+    (19, "5100000004070100640028", 4, None, False),
+    (19, "51000000040701006400280000", 4, None, False),
+    (19, "520000000400", 4, None, False),
+    (19, "5200000004000000", 4, None, False),
+    (19, "5300000004", 4, None, False),
+    (19, "53000000040700", 4, None, False),
+    (18, "510000000407010064002800", 1, None, False),
+    (20, "52000000040000", 1, None, False),
+    (18, "530000000407", 1, None, False),
+    # Past the limits: id, category, distance, speed and gradient; kind and route; id.
+    (19, "5100000004FF010064002800", 9, None, True),
+    (19, "510000000407040064002800", 9, None, True),
+    (19, "510000000407012711002800", 9, None, True),
+    (19, "510000000407010064000900", 9, None, True),
+    (19, "510000000407010064012D00", 9, None, True),
+    (19, "51000000040701006400281F", 9, None, True),
+    (19, "5100000004070100640028E1", 9, None, True),
+    (19, "52000000040200", 9, None, True),
+    (19, "52000000040002", 9, None, True),
+    (19, "5300000004FF", 9, None, True),
+    # 12: no record is held. A signal is taken all the same.
+    (19, "530000000407", 12, None, True),
+    (19, "52000000040000", 0, HS, True),
+    (19, "52000000040000", 100, HS, True),
+    # RF with the greatest figures; 18 while it is undecided. A main signal leaves it so, a distant one for R makes it active.
+    (19, "510000000500002710012C1E", 0, HS, True),
+    (19, "510000000500002710012C1E", 100, HS, True),
+    (19, "510000000600000000000AE2", 18, None, True),
+    (19, "52000000060000", 0, HS, True),
+    (19, "510000000700000000000AE2", 18, None, True),
+    (19, "52000000070100", 0, HS, True),
+    # A repeater with the least figures, once; again it is answered, with the next number 18.
+    (19, "510000000800000000000AE2", 0, HS, True),
+    (19, "510000000800000000000AE2", 100, HS, True),
+    (18, "510000000800000000000AE2", 1, None, False),
+    (19, "510000000900000000000AE2", 18, None, True),
+    # A distant signal for G makes it passive: it gives way to none, and a later signal touches nothing.
+    (19, "52000000090101", 0, HS, True),
+    (19, "510000000A00000000000AE2", 18, None, True),
+    (19, "520000000A0100", 0, HS, True),
+    (19, "510000000B00000000000AE2", 18, None, True),
+    # GH: a distant signal leaves it undecided, a main one for R ends it; one for G makes the next active, which RH repeats.
+    (19, "510000000BFE030064002800", 0, HS, True),
+    (19, "520000000C0100", 0, HS, True),
+    (19, "510000000DFE030064002800", 18, None, True),
+    (19, "520000000D0000", 0, HS, True),
+    (19, "530000000EFE", 12, None, True),
+    (19, "510000000EFE030064002800", 0, HS, True),
+    (19, "520000000F0001", 0, HS, True),
+    (19, "5100000010FE010064002800", 0, HS, True),
+    # 17: six more of GH make eight. 9 comes before 17 and 18; 21 finds no record, and 53 no curve.
+    *[(19, f"51000000{n + 16:02X}0{n:X}030064002800", 0, HS, True) for n in range(1, 7)],
+    (19, "510000001707030064002800", 17, None, True),
+    (19, "510000001707040064002800", 9, None, True),
+    (19, "510000001706030064002800", 18, None, True),
+    (19, "510000001706030064000900", 9, None, True),
+    (19, "510000001606030064002800", 100, HS, True),
+    (19, "210000001706", 12, None, True),
+    (19, "200000001706000064002800", 0, HS, True),
+    (19, "200000001807000064002800", 0, HS, True),
+    (19, "530000001907", 12, None, True),
+    (19, "530000001906", 0, HS, True),
+    (19, "530000001906", 100, HS, True),
+    (19, "530000001A06", 12, None, True),
+    (19, "210000001A06", 0, HS, True),
+    (19, "510000001B07030064002800", 0, HS, True),
+    (19, "510000001C08030064002800", 17, None, True),
+    # A main signal for R ends the six of GH and makes the one of RH active.
+    (19, "520000001C0000", 0, HS, True),
+    (19, "530000001D01", 12, None, True),
+    (19, "510000001D08030064002800", 0, HS, True),
+    (19, "510000001EFE010064002800", 0, HS, True),
+    # 9,999 cm, and the 100 m: then locked, no signal touches it and it gives way to none. It can be ended.
+    *[(19, f"10000000{n:02X}000004B0000003E800", 0, HS, True) for n in range(31, 39)],
+    (19, "10000000270000018F000003E800", 0, HS, True),
+    (19, "10000000270000018F000003E800", 100, HS, True),
+    (19, "510000002809030064002800", 0, HS, True),
+    (19, "100000002900000001000003E800", 0, HS, True),
+    (19, "520000002A0000", 0, HS, True),
+    (19, "530000002B09", 12, None, True),
+    (19, "510000002B08030064002800", 18, None, True),
+    (19, "510000002BFE010064002800", 18, None, True),
+    (19, "530000002B08", 0, HS, True),
+    (19, "530000002C08", 12, None, True),
+    # CS drops them all; in FA 8 comes before 12, 17 and 18.
+    (19, "020000002C01", 0, CS, True),
+    (19, "020000002D02", 0, HS, True),
+    (19, "530000002EFE", 12, None, True),
+    (19, "530000002E00", 12, None, True),
+    *[(19, f"51000000{n + 46:02X}0{n:X}010064002800", 0, HS, True) for n in range(8)],
+    (19, "020000003604", 0, FA, True),
+    (19, "510000003708010064002800", 8, None, True),
+    (19, "510000003700010064002800", 8, None, True),
+    (19, "52000000370000", 8, None, True),
+    (19, "530000003708", 8, None, True),
+    (19, "020000003604", 100, FA, True),
+    # In DA a record at its target: nothing while it is undecided, then shown with bit 6. The signal orders nothing, the next report does.
+    (19, START, 0, DE, True),
+    *[(19, f"10000000{n:02X}00000000000003E800", 0, DE, True) for n in range(2, 33)],
+    (19, "020000002103", 0, DA, True),
+    (19, "510000002207010000002800", 0, DA, True),
+    (19, "52000000230001", 0, DA, True),
+    (19, "510000002407010000002800", 0, DA, True),
+    (19, "52000000250000", 0, AT_TARGET, True),
+    (19, "52000000250000", 100, AT_TARGET, True),
+    (19, "100000002609C400000000" + "03E800", 0, IN_F, True),
+    # A repeater takes it away at once, and a release is offered. 18 writes nothing. A curve of the same figures is shown without bit 6.
+    (19, "510000002707000000002800", 0, UNDECIDED, True),
+    (19, "510000002807000000002800", 18, None, True),
+    (19, "510000002707000000002800", 100, UNDECIDED, True),
+    (19, "200000002807000000002800", 0, CURVE_IN_F, True),
+    # With both it is the curve that is shown, and the record when the curve is ended; ended too, none.
+    (19, "52000000290100", 0, CURVE_IN_F, True),
+    (19, "210000002A07", 0, IN_F, True),
+    (19, "210000002B07", 12, None, True),
+    (19, "530000002B07", 0, UNDECIDED, True),
+    (19, "510000002C07020000002800", 0, UNDECIDED, True),
+    (19, "520000002D0101", 0, IN_F, True),
+    # In FA bit 6 does not stand.
+    (19, "020000002E04", 0, FA, True),
+    (19, "020000002E04", 100, FA, True),
 ]
 
 for area, command, answer, report, passes in CASES:

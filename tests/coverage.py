@@ -23,7 +23,7 @@ DE, CS, HS, DA, FA = range(5)
 STATES = ["DE", "CS", "HS", "DA", "FA"]
 LOSS, TEXT, HALKA, NEUTRAL = 1, 2, 4, 8
 LENGTHS = {0x01: 24, 0x02: 6, 0x10: 14, 0x20: 12, 0x21: 6, 0x22: 8, 0x23: 6, 0x30: 6, 0x31: 5, 0x32: 5, 0x40: 5,
-           0x50: 8}
+           0x50: 8, 0x51: 12, 0x52: 7, 0x53: 6}
 
 # An operand of a code: where it stands among the operands, its form, values in range at its limits, values out of
 # range next to them, and for the speeds of a curve and of an event the place and values of the byte that they go by.

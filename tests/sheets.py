@@ -5,6 +5,7 @@ A case is a stream; its record is its length in two bytes and 1,024 bytes of whi
 """
 
 import os
+import struct
 import subprocess
 import sys
 
@@ -33,6 +34,26 @@ def settled():
 def event(number, which, speed=0):
     """Command 50."""
     return numbered(bytes.fromhex("50 00000000") + bytes([which]) + speed.to_bytes(2, "big"), number)
+
+
+def record(number, ident, category, metres, speed):
+    """Command 51, on the level."""
+    return numbered(bytes.fromhex("51 00000000") + struct.pack(">BBHHb", ident, category, metres, speed, 0), number)
+
+
+def signal(number, kind, route):
+    """Command 52."""
+    return numbered(bytes.fromhex("52 00000000") + bytes([kind, route]), number)
+
+
+def record_end(number, ident):
+    """Command 53."""
+    return numbered(bytes.fromhex("53 00000000") + bytes([ident]), number)
+
+
+def fast(number, moved):
+    """A report at 90 km/h."""
+    return numbered(bytes.fromhex("10 00000000 09C4") + moved.to_bytes(2, "big") + bytes.fromhex("0000 03E8 00"), number)
 
 
 def changes(first, count):
@@ -65,6 +86,16 @@ CASES = [
     settled() + state(33, 3) + event(34, 2) + event(35, 1, 90) + event(36, 1, 90) + event(37, 2) + event(37, 6) + event(38, 3),
     # In HS none.
     START + state(2, 1) + state(3, 2) + event(4, 4) + event(5, 1, 90) + event(6, 6),
+    # ET records in DA: a line where a signal makes one active, for its repeater and for its end; none for a board, for one that is
+    # terminated or passive, nor for a signal, a repeater or an end that is refused.
+    settled() + state(33, 3) + record(34, 200, 1, 0, 40) + record(34, 200, 1, 0, 40) + record(35, 201, 3, 0, 30) + record(36, 202, 0, 0, 20)
+    + signal(37, 0, 0) + signal(38, 1, 1) + signal(39, 2, 0) + record(39, 202, 1, 0, 20) + record(39, 200, 1, 100, 50) + signal(40, 0, 0)
+    + record_end(41, 201) + record_end(41, 200),
+    # A locked one brakes in the report of the 100 m; in FA it is not shown.
+    settled() + state(33, 3) + record(34, 7, 2, 90, 40) + b"".join(fast(35 + i, 1200) for i in range(8)) + fast(43, 399) + fast(44, 1)
+    + state(45, 4),
+    # In HS no line.
+    START + state(2, 1) + state(3, 2) + record(4, 9, 1, 0, 40) + signal(5, 0, 0) + record_end(6, 9),
 ]
 
 if __name__ == "__main__":
