@@ -6,7 +6,7 @@
 The same seed and count always give the same stream. COUNT commands are written,
 each of a known code and its whole length. With "unknown" one byte that is no code
 follows them, with "short" a command that breaks off. With "by-01" the trips steer
-by 01 alone, as before F-2, F-3 and F-6 of 02: then they are the commands recorded before.
+by 01 alone, as before F-2, F-3, F-6 and F-7 of 02: then they are the commands recorded before.
 
 A picture of the unit is kept beside the stream, so that the trips know what would
 be taken next and where the limits lie. Only the stream is written.
@@ -22,14 +22,19 @@ LOSS, TEXT, HALKA, NEUTRAL = 1, 2, 4, 8
 START, STATE, ODOMETER = 0x01, 0x02, 0x10
 CURVE, CURVE_END, SECTION, SECTION_END = 0x20, 0x21, 0x22, 0x23
 STOP_PASSED, PROCEED, BALISE_ERROR, TEST_BRAKES, AREA_EVENT = 0x30, 0x31, 0x32, 0x40, 0x50
+RECORD, SIGNAL_PASSED, RECORD_END = 0x51, 0x52, 0x53
+OF_02 = (TEST_BRAKES, AREA_EVENT, RECORD, SIGNAL_PASSED, RECORD_END)
 LENGTHS = {START: 24, STATE: 6, ODOMETER: 14, CURVE: 12, CURVE_END: 6, SECTION: 8,
-           SECTION_END: 6, STOP_PASSED: 6, PROCEED: 5, BALISE_ERROR: 5, TEST_BRAKES: 5, AREA_EVENT: 8}
+           SECTION_END: 6, STOP_PASSED: 6, PROCEED: 5, BALISE_ERROR: 5, TEST_BRAKES: 5, AREA_EVENT: 8,
+           RECORD: 12, SIGNAL_PASSED: 7, RECORD_END: 6}
 PARTIAL, NON_EQUIPPED, FULLY_EQUIPPED, HT = 4, 7, 8, 9
 SIGNAL, GMD, HT_DELETED, NO_OVERLAP, TO_NON_EQUIPPED, TO_HT, TO_FULLY_EQUIPPED = range(7)
 ENTRIES = {TO_NON_EQUIPPED: NON_EQUIPPED, TO_HT: HT, TO_FULLY_EQUIPPED: FULLY_EQUIPPED}
 TAKEN_FROM = {SIGNAL: (NON_EQUIPPED, HT), GMD: (NON_EQUIPPED, PARTIAL), HT_DELETED: (FULLY_EQUIPPED,),
               NO_OVERLAP: (FULLY_EQUIPPED,), TO_NON_EQUIPPED: (PARTIAL, FULLY_EQUIPPED, HT),
               TO_HT: (PARTIAL, NON_EQUIPPED, FULLY_EQUIPPED), TO_FULLY_EQUIPPED: (PARTIAL, NON_EQUIPPED, HT)}
+CATEGORIES = range(4)  # RF, RH, GF, GH
+MAIN, DISTANT = range(2)
 PATHS = {(DE, CS), (DE, DA), (CS, HS), (HS, CS), (HS, DA), (DA, CS)}
 EMERGENCY = 1 << 1 | 1 << 4 | 1 << 5 | 1 << 6 | 1 << 11
 START_FIELDS = (("flags", "B", 0, 7), ("speed", "H", 10, 300), ("length", "H", 10, 1000),
@@ -67,6 +72,11 @@ def settled(phase, pressure, count, p):
     return ("settling", p, 0) if 400 <= p <= 550 else ("waiting", pressure, count)
 
 
+def controls(category):
+    """The kind of signal that controls a category, and the category's route."""
+    return (MAIN if category % 2 else DISTANT), category // 2
+
+
 # ---------------------------------------------------------------- the picture
 
 
@@ -74,7 +84,7 @@ class Picture:
     """What the trips believe of the unit: all but its report."""
 
     def __init__(self, by_01=False):
-        """`by_01`: with the release of bit 9, the flags and the codes that 01 has, before F-2, F-3 and F-6 of 02."""
+        """`by_01`: with the release of bit 9, the flags and the codes that 01 has, before F-2, F-3, F-6 and F-7 of 02."""
         self.by_01 = by_01
         self.start_fields = BY_01 if by_01 else START_FIELDS
         self.started = False
@@ -105,6 +115,7 @@ class Picture:
     def clear(self):
         self.pending = None
         self.curves = {}
+        self.records = {}
         self.sections = {}
         self.forty = False
         self.causes = 0
@@ -145,6 +156,11 @@ class Picture:
         limits = [self.train["speed"]] + [speed for speed, _ in self.sections.values()]
         return min(limits + [40] * self.forty + [self.gmd] * (self.area == PARTIAL))
 
+    @property
+    def supervised(self):
+        """The curves, and the records that are curves."""
+        return [*self.curves.values(), *(r for r in self.records.values() if r["is"] in ("active", "locked"))]
+
     def take_01(self, operands):
         values = struct.unpack(START_FORM, operands)
         for value, (_, _, low, high) in zip(values, self.start_fields):
@@ -178,6 +194,11 @@ class Picture:
         if self.state in (HS, DA):
             for curve in self.curves.values():
                 curve["d"] = max(0, curve["d"] - moved)
+            for record in self.records.values():
+                record["d"] = max(0, record["d"] - moved)
+                record["ground"] += moved
+                if record["is"] == "undecided" and record["ground"] >= 10000:
+                    record["is"] = "locked"
             for number, (speed, ground) in list(self.sections.items()):
                 if ground is not None:
                     if ground + moved >= 100 * self.train["length"]:
@@ -295,6 +316,39 @@ class Picture:
                 self.gmd, self.sections = speed, {}
         return 0
 
+    def take_51(self, operands):
+        number, category, distance, speed, gradient = struct.unpack(">BBHHb", operands)
+        if number > 254 or category not in CATEGORIES or distance > 10000 or not 10 <= speed <= 300 or abs(gradient) > 30:
+            return 9
+        if self.state not in (HS, DA):
+            return 10
+        if number not in self.records and len(self.records) == 8:
+            return 17
+        if number in self.records and self.records[number]["is"] != "active":
+            return 18
+        self.records[number] = {"kind": 0, "d": 100 * distance, "speed": speed, "gradient": gradient, "past": False,
+                                "category": category, "is": "undecided", "ground": 0}
+        return 0
+
+    def take_52(self, operands):
+        kind, route = operands
+        if kind > 1 or route > 1:
+            return 9
+        if self.state not in (HS, DA):
+            return 10
+        for number, record in list(self.records.items()):
+            if record["is"] == "undecided" and controls(record["category"])[0] == kind:
+                if controls(record["category"])[1] == route:
+                    record["is"] = "active"
+                elif kind == DISTANT:
+                    record["is"] = "passive"
+                else:
+                    del self.records[number]
+        return 0
+
+    def take_53(self, operands):
+        return self.ended(operands[0], self.records, lambda number: self.records.pop(number))
+
     def try_brakes(self, v, half):
         """A report in DE for the brake test that runs."""
         phase, pressure, count = self.test
@@ -388,7 +442,7 @@ class Picture:
         if v >= at(self.vmax + self.train["e_margin"]):
             self.causes |= 1 << 1
         braking = False
-        for curve in self.curves.values():
+        for curve in self.supervised:
             name = self.interval(curve, v)
             curve["past"] = curve["past"] or name not in ("A", "Bf")
             if self.brakes(curve, v):
@@ -458,7 +512,7 @@ class Trips:
         self.left = count
         self.out = []
         self.unit = Picture(by_01)
-        self.codes = [code for code in LENGTHS if code not in (TEST_BRAKES, AREA_EVENT) or not by_01]
+        self.codes = [code for code in LENGTHS if code not in OF_02 or not by_01]
         self.decks = {}
         self.disturbing = 0.05
         self.fresh_driver()
@@ -535,6 +589,15 @@ class Trips:
 
     def area_event(self, event, speed=0):
         return self.send(AREA_EVENT, struct.pack(">BH", event, speed))
+
+    def record(self, number, category, metres, speed, gradient=0):
+        return self.send(RECORD, struct.pack(">BBHHb", number, category, metres, speed, gradient))
+
+    def signal(self, kind, route):
+        return self.send(SIGNAL_PASSED, bytes([kind, route]))
+
+    def end_record(self, number):
+        return self.send(RECORD_END, bytes([number]))
 
     def odometer(self, v=None, moved=None, measured=None, drop=None, press=0, half=None):
         """One report; what is not given goes on as it was."""
@@ -624,8 +687,8 @@ class Trips:
         elif kind == "state":
             self.not_allowed(following)
         elif kind == "end":
-            code = self.pick(CURVE_END, SECTION_END)
-            held = unit.curves if code == CURVE_END else unit.sections
+            code = self.pick(CURVE_END, SECTION_END, *([] if unit.by_01 else [RECORD_END]))
+            held = {CURVE_END: unit.curves, SECTION_END: unit.sections, RECORD_END: unit.records}[code]
             self.emit(code, following, bytes([self.pick(*(n for n in range(255) if n not in held))]))
         else:
             self.emit(START, self.pick(1, following, LAST), self.bad_start())
@@ -649,6 +712,14 @@ class Trips:
             return AREA_EVENT, struct.pack(">BH", *self.deal("event range", (
                 (7, 0), (255, 0), (GMD, 9), (GMD, 301), (GMD, 0), (SIGNAL, 1), (HT_DELETED, 10), (NO_OVERLAP, 130),
                 (TO_NON_EQUIPPED, 300), (TO_HT, 256), (TO_FULLY_EQUIPPED, 65535))))
+        if not self.unit.by_01 and self.chance(0.2):
+            return self.deal("record range", (
+                (RECORD, struct.pack(">BBHHb", 255, 0, 100, 40, 0)), (RECORD, struct.pack(">BBHHb", 1, 4, 100, 40, 0)),
+                (RECORD, struct.pack(">BBHHb", 1, 255, 100, 40, 0)), (RECORD, struct.pack(">BBHHb", 1, 1, 10001, 40, 0)),
+                (RECORD, struct.pack(">BBHHb", 1, 2, 100, 9, 0)), (RECORD, struct.pack(">BBHHb", 1, 3, 100, 301, 0)),
+                (RECORD, struct.pack(">BBHHb", 1, 0, 100, 40, 31)), (RECORD, struct.pack(">BBHHb", 1, 1, 100, 40, -31)),
+                (SIGNAL_PASSED, b"\2\0"), (SIGNAL_PASSED, b"\0\2"), (SIGNAL_PASSED, b"\xff\1"), (SIGNAL_PASSED, b"\1\xff"),
+                (RECORD_END, b"\xff")))
         return self.deal("range", (
             (STATE, bytes([5])), (STATE, bytes([255])),
             (ODOMETER, struct.pack(">HHhhB", 10001, 0, 0, 1000, 0)),
@@ -684,6 +755,10 @@ class Trips:
         if not self.unit.by_01:
             choices += 2 * [(AREA_EVENT, struct.pack(">BH", event, 90 if event == GMD else 0)) for event in TAKEN_FROM
                             if state not in (HS, DA) or self.unit.area not in TAKEN_FROM[event]]
+            if state not in (HS, DA):
+                choices += 3 * [(RECORD, struct.pack(">BBHHb", 3, 1, 500, 40, -5)), (SIGNAL_PASSED, b"\1\0"), (RECORD_END, b"\3")]
+            choices += [(RECORD, struct.pack(">BBHHb", held, 1, 500, 40, -5)) for held, record in self.unit.records.items()
+                        if record["is"] != "active"]
         code, operands = self.pick(*choices)
         self.emit(code, number, operands)
 
@@ -855,7 +930,7 @@ class Trips:
 
     def quiet(self):
         """A few reports under all limits."""
-        limit = min([self.unit.vmax] + [curve["speed"] for curve in self.unit.curves.values()])
+        limit = min([self.unit.vmax] + [curve["speed"] for curve in self.unit.supervised])
         for _ in range(self.between(1, 4)):
             self.odometer(v=self.between(0, below(limit)))
 
@@ -889,9 +964,9 @@ class Trips:
         for held in self.pick((0, 1, 1, 0), (1, 1, 0), (0, 1), (1, 0, 1)):
             self.odometer(press=button * held, moved=self.pick(0, 3))
 
-    def any_id(self, held):
-        """An id for a curve or section: held ones too, and only those when all are held."""
-        if held and (len(held) == 16 or self.chance(0.4)):
+    def any_id(self, held, places=16):
+        """An id for a curve, section or record: held ones too, and only those when all are held."""
+        if held and (len(held) == places or self.chance(0.4)):
             return self.pick(*held)
         return self.pick(0, 1, 2, 253, 254, self.between(0, 254))
 
@@ -1441,6 +1516,163 @@ class Trips:
         for _ in range(self.pick(0, 4, 5)):
             self.odometer(moved=1200)
 
+    # -- ET records, in HS and DA
+
+    def a_board(self, **said):
+        """A board of any category, near or far; `said` has what is not left to chance. Gives the id."""
+        unit = self.unit
+        number = said.get("number", self.any_id(unit.records, 8))
+        self.record(number, said.get("category", self.deal("category", CATEGORIES)),
+                    said.get("metres", self.pick(0, 99, 100, self.spread(0, 10000), self.between(50, 600))),
+                    said.get("speed", self.pick(10, 40, self.spread(10, 300))), said.get("gradient", self.pick(0, 0, -5, self.spread(-30, 30))))
+        return number
+
+    def a_signal(self):
+        return self.signal(*self.deal("signal", [(kind, route) for kind in (MAIN, DISTANT) for route in (0, 1)]))
+
+    def pass_controlling(self, category, own=True):
+        kind, route = controls(category)
+        return self.signal(kind, route if own else 1 - route)
+
+    def clear_records(self):
+        for number in list(self.unit.records):
+            if self.chance(0.8):
+                self.end_record(number)
+
+    def boards(self):
+        """Boards and signals of all kinds, with ground between them, repeaters and ends."""
+        unit = self.unit
+        if unit.state == DA:
+            self.odometer(v=self.between(0, 300))
+        for _ in range(self.between(3, 10)):
+            what = self.deal("boards", ("board", "board", "board", "signal", "signal", "signal", "held", "held", "ground", "end"))
+            if what == "signal":
+                self.a_signal()
+            elif what == "ground":
+                for _ in range(self.between(1, 9)):
+                    self.odometer(moved=self.pick(1200, 1199, 1))
+            elif what == "end" and unit.records:
+                self.end_record(self.pick(*unit.records))
+            elif what == "held" and unit.records:
+                self.a_board(number=self.pick(*unit.records))
+            else:
+                self.a_board()
+            if self.chance(0.3):
+                self.odometer()
+        self.clear_records()
+
+    def to_100_m(self):
+        """A board up to 100 m to the centimetre, with or without its signal; it brakes where it is locked, or does not."""
+        unit = self.unit
+        _, floor, gradient, v = self.a_curve()
+        v = min(v, upto(unit.vmax))
+        model = {"kind": 0, "speed": floor, "gradient": gradient}
+        distance = unit.boundary(model, self.pick("Bf", "B", "P", "C", "D", "E", "F"), v)
+        metres = self.pick(0, 50, min(10000, max(0, distance // 100) + 100), min(10000, max(0, distance // 100) + 101))
+        category = self.deal("category", CATEGORIES)
+        self.odometer(v=v)
+        number = self.a_board(category=category, metres=metres, speed=floor, gradient=gradient)
+        last = self.pick(9999, 9999, 10000, 10001, self.between(9000, 10600))
+        while number in unit.records and unit.records[number]["is"] == "undecided" and unit.records[number]["ground"] < last:
+            self.odometer(v=v, moved=min(last - unit.records[number]["ground"], self.pick(1200, 1200, 1199)))
+            if self.chance(0.08):
+                self.signal(1 - controls(category)[0], self.pick(0, 1))
+        if self.chance(0.5):
+            self.pass_controlling(category, self.chance(0.6))
+        self.odometer(v=v, moved=1)
+        self.a_signal()
+        self.odometer(v=v, moved=self.pick(0, 1, 1200))
+        if self.chance(0.5):
+            self.a_board(number=number)
+        self.after_record(number, floor)
+
+    def after_record(self, number, floor):
+        unit = self.unit
+        if self.chance(0.5):
+            self.wait()
+        for v in (at(floor + 10), below(floor + 10), upto(floor) + 1, upto(floor)):
+            if self.chance(0.5):
+                self.odometer(v=v, moved=self.pick(0, 1))
+        if unit.causes and self.chance(0.7):
+            self.press(LOSS)
+        if self.chance(0.85) and number in unit.records:
+            self.end_record(number)
+        if unit.causes:
+            self.press(LOSS)
+
+    def record_boundaries(self):
+        """An active record put just before each boundary in turn by a repeater, and a report one cm on."""
+        unit = self.unit
+        _, floor, gradient, v = self.a_curve()
+        floor = max(10, floor)
+        number = self.any_id(unit.records, 8)
+        self.halka = self.pick(0, 0, 1)
+        self.odometer(v=min(v, upto(floor)))
+        model = {"kind": 0, "speed": floor, "gradient": gradient}
+        for name in ("Bf", "B", "P", "C", "D", "E", "F"):
+            distance = unit.boundary(model, name, v)
+            metres = distance // 100 + 1
+            if distance < 0 or metres > 10000:
+                continue
+            category = self.deal("category", CATEGORIES)
+            self.a_board(number=number, category=category, metres=metres, speed=floor, gradient=gradient)
+            if self.chance(0.9):
+                self.pass_controlling(category)
+            self.odometer(v=v, moved=100 * metres - distance - 1)
+            self.odometer(moved=1)
+            if self.chance(0.2):
+                self.curve(self.any_id(unit.curves), 0, metres, floor, gradient)
+                self.odometer(moved=0)
+        self.after_record(number, floor)
+        self.halka = 0
+
+    def crowd_of_both(self):
+        """Curves and records at once, alike but for their ids, or nearly."""
+        unit = self.unit
+        _, floor, gradient, v = self.a_curve()
+        floor = max(10, floor)
+        model = {"kind": 0, "speed": floor, "gradient": gradient}
+        metres = min(10000, max(0, unit.boundary(model, self.pick("Bf", "B", "C", "D"), v) // 100 + 1))
+        category = self.deal("category", CATEGORIES)
+        ids = [self.pick(0, 1, 2, 253, 254, self.between(0, 254)) for _ in range(3)]
+        for number in ids[:self.between(1, 3)]:
+            self.a_board(number=number, category=category, metres=metres, speed=floor, gradient=gradient)
+        self.pass_controlling(category, self.chance(0.8))
+        numbers = [self.pick(*ids, self.between(0, 254)) for _ in range(self.between(1, 2))]
+        for number in numbers:
+            self.curve(number, 0, max(0, min(10000, metres + self.pick(0, 0, 0, 5, -5))), floor, gradient)
+        for _ in range(3):
+            self.odometer(v=v, moved=self.pick(0, 100, 400))
+        for number in numbers:
+            if number in unit.curves and self.chance(0.8):
+                self.end_curve(number)
+        self.odometer()
+        self.clear_records()
+
+    def fill_records(self):
+        """All eight places of records, one too many, and a place used again."""
+        unit = self.unit
+        if unit.state == DA:
+            self.odometer(v=self.between(0, 270))
+        while len(unit.records) < 8:
+            self.a_board(number=self.pick(*(n for n in range(255) if n not in unit.records)))
+            if self.chance(0.1):
+                self.odometer(moved=1200)
+        free = [n for n in range(255) if n not in unit.records]
+        self.a_board(number=self.pick(*free))
+        self.a_board(number=self.pick(*unit.records))
+        self.a_signal()
+        self.a_board(number=self.pick(*free))
+        self.odometer()
+        if unit.records:
+            gone = self.pick(*unit.records)
+            self.end_record(gone)
+            self.end_record(gone)
+        self.a_board(number=self.pick(*free))
+        self.a_signal()
+        self.odometer()
+        self.clear_records()
+
     def around(self):
         """DA to CS, HS and back to DA."""
         unit = self.unit
@@ -1509,6 +1741,8 @@ class Trips:
             self.fill_curves()
         if not unit.by_01 and self.chance(0.4):
             self.some_events()
+        if not unit.by_01 and self.chance(0.4):
+            self.pick(self.boards, self.fill_records)()
         if self.chance(0.25):
             self.state(CS)
             self.odometer()
@@ -1568,7 +1802,9 @@ class Trips:
                 self.grazing, self.grazing, self.over_550, self.over_550, self.quiet]
         if not self.unit.by_01:
             acts += [self.areas, self.areas, self.areas, self.gmd_over_sections, self.gmd_over_sections,
-                     self.group_without_overlap, self.group_without_overlap, self.group_without_overlap]
+                     self.group_without_overlap, self.group_without_overlap, self.group_without_overlap,
+                     self.boards, self.boards, self.boards, self.to_100_m, self.to_100_m, self.to_100_m, self.record_boundaries,
+                     self.record_boundaries, self.crowd_of_both, self.crowd_of_both, self.fill_records]
         names = [act.__name__ for act in acts]
         for _ in range(self.between(4, 14)):
             getattr(self, self.deal("act", names))()
@@ -1619,6 +1855,9 @@ class Trips:
         if not unit.by_01:
             choices.append(lambda: self.emit(TEST_BRAKES, unit.number + 1))
             choices.append(lambda: self.emit(AREA_EVENT, unit.number + 1, struct.pack(">BH", SIGNAL, 0)))
+            choices.append(lambda: self.emit(RECORD, unit.number + 1, struct.pack(">BBHHb", 1, 1, 500, 40, 0)))
+            choices.append(lambda: self.emit(SIGNAL_PASSED, unit.number + 1, b"\0\0"))
+            choices.append(lambda: self.emit(RECORD_END, unit.number + 1, b"\1"))
         for _ in range(self.between(1, 4)):
             self.pick(*choices)()
 
