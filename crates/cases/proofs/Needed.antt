@@ -6,7 +6,7 @@ use native.Mathlib.Bridge.{IsLe, le-by-compare}
 use native.Mathlib.Omega.{arith}
 use mathlib.Core.Bool.{true, false, false≢true}
 use mathlib.Core.List.{[]}
-use Rattle.rules.specs.Places.{freeCurve}
+use Rattle.curve.specs.Free.{freeCurve}
 use Rattle.rules.specs.Commands.{freshStm}
 use Rattle.rules.specs.Runs.{stateAtEnd}
 use Rattle.rules.specs.TwoRuns.{Both, Faster, RefusalsAreNeeded, NoServiceFaultIsNeeded, NoEmergencyFaultIsNeeded, GearIsNeeded, StopsAreNeeded, NoTestIsNeeded}

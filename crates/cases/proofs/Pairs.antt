@@ -13,7 +13,8 @@ use Rattle.rules.specs.Numbers.{codeOf}
 use Rattle.places.specs.Places.{places}
 use Rattle.areas.specs.declared.Stay.{Stay}
 use Rattle.areas.specs.Stays.{freshStay}
-use Rattle.rules.specs.Places.{anyOf, freeCurve, freeSection}
+use Rattle.curve.specs.Free.{freeCurve}
+use Rattle.rules.specs.Places.{anyOf, freeSection}
 use Rattle.rules.specs.Runs.{moments}
 use Rattle.rules.specs.Units.{IsUnit}
 use Rattle.rules.specs.TwoRuns.{TrainsCompared, TracksCompared, Compared, Both, Faster, RefusedAlike, NoServiceFault, NoEmergencyFault, InGear, UnexpectedStopAlike, NoTestRuns, Presumed, Claimed, ClaimGiven}

@@ -1,3 +1,4 @@
+pub mod Free
 pub mod Deceleration
 pub mod Lead
 pub mod Boundary

@@ -4,6 +4,7 @@
 // second, decelerations in mm/s². Every function answers at every value of its parameters.
 mod boundary;
 mod deceleration;
+mod free;
 mod lead;
 mod moved;
 
@@ -16,6 +17,7 @@ pub use boundary::reached_at_kmh;
 pub use deceleration::deceleration_of;
 pub use deceleration::gradient_from;
 pub use deceleration::level_of;
+pub use free::free_curve;
 pub use lead::leads_of;
 pub use moved::moved_by;
 

@@ -21,7 +21,7 @@ use Rattle.curve.specs.Claims.{StaysFor}
 use Rattle.interval.proofs.Changes.{change-is-told}
 use Rattle.rules.specs.Numbers.{codeOf}
 use Rattle.rules.specs.Operands.{codeByte, twoAt, readingOf, odometerInRange, inRange}
-use Rattle.rules.specs.Places.{freeCurve}
+use Rattle.curve.specs.Free.{freeCurve}
 use Rattle.rules.specs.Speeds.{brakingOf}
 use Rattle.rules.specs.Odometer.{moves, measures, notes}
 use Rattle.rules.specs.Runs.{Sent, stateAfter, momentOf}

@@ -12,7 +12,8 @@ use Rattle.places.proofs.Held.{free-moved, free-noted}
 use Rattle.areas.proofs.Claims.{deletes-told}
 use Rattle.rules.specs.Numbers.{isAccepted, isCode, isState, codeOf, stateOf}
 use Rattle.rules.specs.Operands.{codeByte, readingOf}
-use Rattle.rules.specs.Places.{freeCurve, freeSection, endedCurve, endingSection, endedSection, movedSection, passedTrack, movedTrack}
+use Rattle.curve.specs.Free.{freeCurve}
+use Rattle.rules.specs.Places.{freeSection, endedCurve, endingSection, endedSection, movedSection, passedTrack, movedTrack}
 use Rattle.rules.specs.Speeds.{brakingOf}
 use Rattle.rules.specs.Odometer.{keptOf, notedTrack}
 use Rattle.rules.specs.Commands.{stopped, carriedOut}

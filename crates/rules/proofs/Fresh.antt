@@ -12,7 +12,8 @@ use Rattle.pressure.specs.Report.{freshFeedback}
 use Rattle.rules.specs.Numbers.{isAccepted, isCode, isState, codeOf, stateOf}
 use Rattle.rules.specs.Operands.{codeByte, readingOf, inRange}
 use Rattle.places.specs.Places.{places}
-use Rattle.rules.specs.Places.{emptyTrack, clearedTrack, freeCurve, freeSection, freshTrack}
+use Rattle.curve.specs.Free.{freeCurve}
+use Rattle.rules.specs.Places.{emptyTrack, clearedTrack, freeSection, freshTrack}
 use Rattle.rules.specs.Table.{noCauses}
 use Rattle.rules.specs.Releases.{freshBrakes, releasedBrakes}
 use Rattle.rules.specs.Odometer.{withState, withBrakes, seenIn, moves, measures, notes, adds, releases, isFresh, supervised, reportedIn}

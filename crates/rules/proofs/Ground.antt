@@ -17,7 +17,8 @@ use Rattle.wire.specs.Numbers.{byteAt}
 use Rattle.wire.specs.Form.{operandsOf}
 use Rattle.rules.specs.Numbers.{isAccepted, isCode, isState, codeOf, stateOf}
 use Rattle.rules.specs.Operands.{codeByte, twoAt, readingOf, curveOf}
-use Rattle.rules.specs.Places.{freeCurve, withPast, givenCurve, endedCurve, passedTrack, movedTrack}
+use Rattle.curve.specs.Free.{freeCurve}
+use Rattle.rules.specs.Places.{withPast, givenCurve, endedCurve, passedTrack, movedTrack}
 use Rattle.rules.specs.Speeds.{brakingOf, judgedNow}
 use Rattle.rules.specs.Odometer.{keptOf, notedTrack}
 use Rattle.rules.specs.Commands.{stopped, carriedOut}

@@ -10,7 +10,8 @@ use Rattle.wire.specs.Numbers.{byteAt}
 use Rattle.wire.specs.Form.{operandsOf}
 use Rattle.rules.specs.Numbers.{isAccepted, isCode, isState, codeOf, stateOf}
 use Rattle.rules.specs.Operands.{codeByte, readingOf, curveOf, sectionOf}
-use Rattle.rules.specs.Places.{emptyTrack, freshTrack, clearedTrack, passedTrack, freeCurve, freeSection, holdsCurve, holdsSection, allCurvesHeld, allSectionsHeld, withPast, endingSection, givenCurve, givenSection, endedCurve, endedSection, movedTrack}
+use Rattle.curve.specs.Free.{freeCurve}
+use Rattle.rules.specs.Places.{emptyTrack, freshTrack, clearedTrack, passedTrack, freeSection, holdsCurve, holdsSection, allCurvesHeld, allSectionsHeld, withPast, endingSection, givenCurve, givenSection, endedCurve, endedSection, movedTrack}
 use Rattle.rules.specs.Odometer.{notedTrack}
 use Rattle.rules.specs.Commands.{freshWith, entered, fortyBy, stopped, carriedOut}
 use Rattle.rules.specs.Refusals.{findsNoPlace}

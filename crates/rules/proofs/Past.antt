@@ -16,7 +16,8 @@ use Rattle.curve.specs.Ground.{movedBy}
 use Rattle.interval.specs.Judging.{judgedOf, notedAt}
 use Rattle.rules.specs.Numbers.{isAccepted, isCode, isState, codeOf, stateOf}
 use Rattle.rules.specs.Operands.{codeByte, readingOf, curveOf}
-use Rattle.rules.specs.Places.{freeCurve, passedTrack, movedTrack}
+use Rattle.curve.specs.Free.{freeCurve}
+use Rattle.rules.specs.Places.{passedTrack, movedTrack}
 use Rattle.rules.specs.Speeds.{brakingOf}
 use Rattle.rules.specs.Odometer.{keptOf, moves, measures, notes}
 use Rattle.rules.specs.Commands.{stopped, carriedOut}

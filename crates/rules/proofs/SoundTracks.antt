@@ -17,7 +17,8 @@ use Rattle.areas.specs.Numbers.{isEvent}
 use Rattle.areas.specs.Rows.{isTaken}
 use Rattle.areas.specs.Stays.{freshStay, clearedStay, deletesSections}
 use Rattle.rules.specs.Operands.{within, speedInRange, curveInRange, sectionInRange}
-use Rattle.rules.specs.Places.{allOf, freeCurve, freeSection, noSections, emptyTrack, freshTrack, clearedTrack, passedTrack, isCurve, isSection, withPast, givenCurve, endedCurve, givenSection, endingSection, endedSection, movedSection, movedTrack}
+use Rattle.curve.specs.Free.{freeCurve}
+use Rattle.rules.specs.Places.{allOf, freeSection, noSections, emptyTrack, freshTrack, clearedTrack, passedTrack, isCurve, isSection, withPast, givenCurve, endedCurve, givenSection, endingSection, endedSection, movedSection, movedTrack}
 use Rattle.rules.specs.Units.{isCurveSound, isGroundSound, isSectionSound, isStaySound}
 use Rattle.rules.specs.declared.Section.{Section}
 use Rattle.rules.specs.declared.Track.{Track}

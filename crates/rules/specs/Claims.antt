@@ -2,7 +2,7 @@
 use mathlib.Core.Path.{_≡_}
 use Prim.Native.Nat.{ℕ, zero, suc, _+_, _*_, _≤_, _<_}
 use mathlib.Core.Bool.{true, false}
-use mathlib.Core.List.{List, [], _∷_, map, zipWith, List·Memᴰ}
+use mathlib.Core.List.{List, [], _∷_, map, List·Memᴰ}
 use lib.Dec.{eqb}
 use mathlib.Core.Option.{some}
 use Rattle.wire.specs.Codes.{commands}
@@ -16,7 +16,7 @@ use Rattle.rules.specs.Numbers.{answerNumber, codeNumber, codeOf}
 use Rattle.rules.specs.Places.{freeSection, endingSection, movedSection}
 use Rattle.rules.specs.Speeds.{vmaxOf, permittedSpeed}
 use Rattle.rules.specs.Checks.{begins, countedOn, failsNow}
-use Rattle.rules.specs.Shows.{candidate, goesBefore, chosen}
+use Rattle.rules.specs.Shows.{goesBefore, candidates, chosen}
 use Rattle.rules.specs.Refusals.{answerFor}
 use Rattle.rules.specs.Runs.{Sent, answerTo, isOf}
 use Rattle.rules.specs.declared.Answer.{Answer}
@@ -44,6 +44,9 @@ codes =
     Code.BaliseError ∷
     Code.TestBrakes ∷
     Code.AreaEvent ∷
+    Code.NewRecord ∷
+    Code.SignalPassed ∷
+    Code.EndRecord ∷
     []
 
 -- the commands are those of the table "Codes and whole lengths", and each is told by its code
@@ -112,14 +115,14 @@ PermittedIsLeast =
 
 -- ---- the shown curve
 
--- where a curve is held one is shown, and none that is held goes before it
+-- where a curve, or a record that is one, is held one is shown, and none that is held goes before it
 abbrev pub ShownIsFirst : Type 0
 ShownIsFirst =
-    (curves : List Curve) (judged : List Judged) (c : Candidate)
-    → List·Memᴰ c (zipWith candidate curves judged) → c .judged .held ≡ true
-    → (chosen curves judged .judged .held ≡ true)
-    × List·Memᴰ (chosen curves judged) (zipWith candidate curves judged)
-    × (goesBefore c (chosen curves judged) ≡ false)
+    (judge : Curve → Judged) (track : Track) (c : Candidate)
+    → List·Memᴰ c (candidates judge track) → c .judged .held ≡ true
+    → (chosen judge track .judged .held ≡ true)
+    × List·Memᴰ (chosen judge track) (candidates judge track)
+    × (goesBefore c (chosen judge track) ≡ false)
 
 -- ---- checks
 

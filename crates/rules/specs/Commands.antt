@@ -1,4 +1,4 @@
--- What an accepted command does (01, "Commands", "Answers"; 02, F-3 and F-6).
+-- What an accepted command does (01, "Commands", "Answers"; 02, F-3, F-6 and F-7).
 use Prim.Native.Nat.{ℕ, zero, suc}
 use mathlib.Core.Bool.{Bool, true, false, cond}
 use mathlib.Core.List.{List, [], _∷_}
@@ -10,8 +10,8 @@ use Rattle.wire.specs.Form.{reportLength, operandsOf}
 use Rattle.pressure.specs.declared.Feed.{Feed}
 use Rattle.pressure.specs.Report.{freshFeedback}
 use Rattle.rules.specs.Numbers.{codeOf, stateOf}
-use Rattle.rules.specs.Operands.{codeByte, trainOf, readingOf, curveOf, sectionOf, eventIn, eventSpeed}
-use Rattle.rules.specs.Places.{freshTrack, clearedTrack, withCurves, withSections, withForty, passedTrack, givenCurve, endedCurve, givenSection, endedSection}
+use Rattle.rules.specs.Operands.{codeByte, trainOf, readingOf, curveOf, sectionOf, eventIn, eventSpeed, recordOf, signalIn, routeIn}
+use Rattle.rules.specs.Places.{freshTrack, clearedTrack, withCurves, withSections, withForty, withRecords, passedTrack, givenCurve, endedCurve, givenSection, endedSection, givenRecord, endedRecord, signalledRecords}
 use Rattle.rules.specs.Releases.{freshBrakes, brakesBy}
 use Rattle.rules.specs.BrakeTest.{freshTest, begunTest, leftTest}
 use Rattle.rules.specs.Odometer.{withState, withTrack, withBrakes, withTest, reportedIn}
@@ -68,7 +68,7 @@ freshStm = freshWith false noTrain
 -- ---- state
 
 -- "Entering CS drops curves, sections, causes, their counters and the 40 of an unexpected stop, but nothing of the feedback"; 02,
--- F-6: "CS keeps the area"
+-- F-6: "CS keeps the area"; 02, F-7: "There are eight records; entering CS drops them"
 abbrev pub entered : State → Stm → Stm
 entered State.DE stm = withState stm State.DE
 entered State.CS stm = withBrakes (withTrack (withState stm State.CS) (clearedTrack (stm .track))) freshBrakes
@@ -107,6 +107,12 @@ carriedOut Code.BaliseError s stm = withBrakes stm (brakesBy Code.BaliseError 0 
 carriedOut Code.TestBrakes s stm = withTest stm (begunTest (stm .test))
 -- 02, F-6: "A command 50 carries one byte of event"
 carriedOut Code.AreaEvent s stm = withTrack stm (passedTrack (eventIn s) (eventSpeed s) (stm .track))
+-- 02, F-7: "A command 51 (12 bytes) adds an indefinite ET record"
+carriedOut Code.NewRecord s stm = withTrack stm (withRecords (stm .track) (givenRecord (recordOf s) (stm .track .records)))
+-- "A command 52 (7 bytes) tells of a passed signal"
+carriedOut Code.SignalPassed s stm = withTrack stm (withRecords (stm .track) (signalledRecords (signalIn s) (routeIn s) (stm .track .records)))
+-- "A command 53 (6 bytes) ends a record"
+carriedOut Code.EndRecord s stm = withTrack stm (withRecords (stm .track) (endedRecord (byteAt s 0) (stm .track .records)))
 
 -- ---- what is remembered of it
 

@@ -20,7 +20,8 @@ use Rattle.interval.specs.Intervals.{intervalOf}
 use Rattle.areas.specs.Numbers.{areaNumber}
 use Rattle.rules.specs.Numbers.{isAccepted, isState}
 use Rattle.rules.specs.Operands.{twoAt, bitOf}
-use Rattle.rules.specs.Places.{freeCurve, freeSection}
+use Rattle.curve.specs.Free.{freeCurve}
+use Rattle.rules.specs.Places.{freeSection}
 use Rattle.rules.specs.Runs.{Sent, answerTo, stateAfter, isOf}
 use Rattle.rules.specs.declared.Code.{Code}
 use Rattle.rules.specs.declared.State.{State}

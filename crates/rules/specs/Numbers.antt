@@ -9,7 +9,8 @@ use Rattle.rules.specs.declared.Cause.{Cause}
 use Rattle.rules.specs.declared.Order.{Order}
 
 -- "Answers": "0 accepted. 100 again", and the list 1 to 13; 02, F-3: "Errors: 14, test asked outside DE; 15, test already running";
--- 02, F-6: "Errors: 16, an event that these rules don't take in this area"
+-- 02, F-6: "Errors: 16, an event that these rules don't take in this area"; 02, F-7: "Errors: 17, no ET place free; 18, repeater for a
+-- record that can't be superseded"
 abbrev pub answerNumber : Answer → ℕ
 answerNumber Answer.Accepted = 0
 answerNumber Answer.Again = 100
@@ -29,6 +30,8 @@ answerNumber Answer.AllHeld = 13
 answerNumber Answer.OutsideDE = 14
 answerNumber Answer.TestRunning = 15
 answerNumber Answer.NotTaken = 16
+answerNumber Answer.NoRecordPlace = 17
+answerNumber Answer.NotSuperseded = 18
 
 -- accepted; accepted or again; refused
 abbrev pub isAccepted : Answer → Bool
@@ -40,7 +43,7 @@ isAnswered answer = isAccepted answer || eqb (answerNumber answer) 100
 abbrev pub isRefused : Answer → Bool
 isRefused answer = not (isAnswered answer)
 
--- "Commands", the column Code; 02, F-3: "New command 40"; 02, F-6: "A command 50"
+-- "Commands", the column Code; 02, F-3: "New command 40"; 02, F-6: "A command 50"; 02, F-7: "A command 51", "A command 52", "A command 53"
 abbrev pub codeNumber : Code → ℕ
 codeNumber Code.Start = 0x01
 codeNumber Code.ChangeState = 0x02
@@ -54,6 +57,9 @@ codeNumber Code.Proceed = 0x31
 codeNumber Code.BaliseError = 0x32
 codeNumber Code.TestBrakes = 0x40
 codeNumber Code.AreaEvent = 0x50
+codeNumber Code.NewRecord = 0x51
+codeNumber Code.SignalPassed = 0x52
+codeNumber Code.EndRecord = 0x53
 
 -- the command of a byte that is a code; refusal 3 has gone before
 unfoldable pub codeOf : ℕ → Code
@@ -68,7 +74,10 @@ codeOf byte =
     (cond (eqb byte 0x30) Code.StopPassed
     (cond (eqb byte 0x31) Code.Proceed
     (cond (eqb byte 0x32) Code.BaliseError
-    (cond (eqb byte 0x40) Code.TestBrakes Code.AreaEvent))))))))))
+    (cond (eqb byte 0x40) Code.TestBrakes
+    (cond (eqb byte 0x50) Code.AreaEvent
+    (cond (eqb byte 0x51) Code.NewRecord
+    (cond (eqb byte 0x52) Code.SignalPassed Code.EndRecord)))))))))))))
 
 -- a command is this one
 abbrev pub isCode : Code → Code → Bool

@@ -2,7 +2,7 @@
 -- and measures, in DE and CS it only measures; each keeps its figures and buttons."; 02, F-3).
 use Prim.Native.Nat.{ℕ}
 use mathlib.Core.Bool.{Bool, cond, not, _&&_}
-use mathlib.Core.List.{List}
+use mathlib.Core.List.{List, map, zipWith}
 use lib.Ieee.{lt}
 use Rattle.pressure.specs.declared.Measured.{Measured}
 use Rattle.pressure.specs.Convert.{kPa}
@@ -10,8 +10,11 @@ use Rattle.pressure.specs.Reference.{dropOf}
 use Rattle.pressure.specs.Report.{reportedTo}
 use Rattle.curve.specs.declared.Judged.{Judged}
 use Rattle.curve.specs.declared.Interval.{Interval}
+use Rattle.interval.specs.Judging.{notedAt}
 use Rattle.places.specs.Places.{notedAll, anyBrakes}
-use Rattle.rules.specs.Places.{withCurves, movedTrack}
+use Rattle.records.specs.declared.EtRecord.{EtRecord}
+use Rattle.records.specs.Lives.{withCurve, asCurve}
+use Rattle.rules.specs.Places.{allCurves, withCurves, withRecords, movedTrack}
 use Rattle.rules.specs.Speeds.{judgedNow, vmaxOf}
 use Rattle.rules.specs.Checks.{isDrop}
 use Rattle.rules.specs.BrakeTest.{testedAt, extraLeft}
@@ -148,7 +151,7 @@ seenWith judged vmax train feedback kept since roll = record {
 
 unfoldable pub seenOf : Train → Track → Measured → Kept → Since → Roll → Seen
 seenOf train track feedback kept since roll =
-    seenWith (judgedNow train kept (track .curves)) (vmaxOf train track) train feedback kept since roll
+    seenWith (judgedNow train kept (allCurves track)) (vmaxOf train track) train feedback kept since roll
 
 -- in a state, with its last figures
 unfoldable pub seenIn : Stm → Seen
@@ -168,9 +171,17 @@ unfoldable pub measures : Reading → Stm → Stm
 measures r stm =
     withMeasured stm (reportedTo (stm .feedback) (stm .train .feed) (stm .train .pressure) (r .external)) (keptOf r)
 
--- "A curve's past in B is noted at reports in DA"
+-- "A curve's past in B is noted at reports in DA", and so is that of a record that is a curve; another is judged A, which notes nothing
+abbrev pub notedRecord : EtRecord → Judged → EtRecord
+notedRecord et j = withCurve et (notedAt (et .curve) (j .interval))
+
+abbrev pub notedRecords : List EtRecord → List Judged → List EtRecord
+notedRecords ets judged = zipWith notedRecord ets judged
+
 unfoldable pub notedTrack : Train → Kept → Track → Track
-notedTrack train kept track = withCurves track (notedAll (track .curves) (judgedNow train kept (track .curves)))
+notedTrack train kept track =
+    withRecords (withCurves track (notedAll (track .curves) (judgedNow train kept (track .curves))))
+    (notedRecords (track .records) (judgedNow train kept (map asCurve (track .records))))
 
 -- the notes: past in B, halted, braked, rolled
 unfoldable pub notes : Reading → Stm → Stm

@@ -13,6 +13,11 @@ use Rattle.curve.specs.declared.Curve.{Curve}
 use Rattle.curve.specs.Deceleration.{gradientFrom}
 use Rattle.areas.specs.declared.Event.{Event}
 use Rattle.areas.specs.Numbers.{eventOf, isEvent}
+use Rattle.records.specs.declared.Signal.{Signal}
+use Rattle.records.specs.declared.Route.{Route}
+use Rattle.records.specs.declared.Condition.{Condition}
+use Rattle.records.specs.declared.EtRecord.{EtRecord}
+use Rattle.records.specs.Numbers.{categoryOf, signalOf, routeOf}
 use Rattle.rules.specs.declared.Code.{Code}
 use Rattle.rules.specs.declared.Train.{Train}
 use Rattle.rules.specs.declared.Section.{Section}
@@ -130,17 +135,20 @@ speedInRange Kind.ExpectStop speed = eqb speed 10 || eqb speed 40
 abbrev pub gradientOf : ℕ → Gradient
 gradientOf byte = gradientFrom (signed 256 byte)
 
--- the curve, its distance in cm
-unfoldable pub curveOf : List ℕ → Curve
-curveOf s = record {
+-- the curve of a kind, its distance in cm
+abbrev pub curveFrom : Kind → List ℕ → Curve
+curveFrom kind s = record {
   held = true;
   id = byteAt s 0;
-  kind = kindOf (byteAt s 1);
+  kind = kind;
   distance = 100 * twoAt s 2;
   speed = twoAt s 4;
   gradient = gradientOf (byteAt s 6);
   past = false;
 }
+
+unfoldable pub curveOf : List ℕ → Curve
+curveOf s = curveFrom (kindOf (byteAt s 1)) s
 
 unfoldable pub curveInRange : Curve → Bool
 curveInRange curve =
@@ -181,6 +189,29 @@ eventSpeedInRange event speed = cond (isEvent Event.GMD event) (within 10 300 sp
 unfoldable pub eventInRange : List ℕ → Bool
 eventInRange s = leb (byteAt s 0) 6 && eventSpeedInRange (eventIn s) (eventSpeed s)
 
+-- ---- 51 ET record, 52 signal passed (02, F-7)
+
+-- "id, category (..), target distance, speed, gradient, with command 20's widths and its ranges for kind 0"
+unfoldable pub recordOf : List ℕ → EtRecord
+recordOf s = record {
+  curve = curveFrom Kind.SpeedTarget s;
+  category = categoryOf (byteAt s 1);
+  condition = Condition.Undecided 0;
+}
+
+unfoldable pub newRecordInRange : List ℕ → Bool
+newRecordInRange s = leb (byteAt s 1) 3 && curveInRange (recordOf s .curve)
+
+-- "its kind (0 main, 1 distant) and route (0 R, 1 G)"
+abbrev pub signalIn : List ℕ → Signal
+signalIn s = signalOf (byteAt s 0)
+
+abbrev pub routeIn : List ℕ → Route
+routeIn s = routeOf (byteAt s 1)
+
+unfoldable pub signalInRange : List ℕ → Bool
+signalInRange s = leb (byteAt s 0) 1 && leb (byteAt s 1) 1
+
 -- ---- all commands
 
 -- refusal 9 asks it: every operand is in its range
@@ -197,3 +228,6 @@ inRange Code.Proceed s = true
 inRange Code.BaliseError s = true
 inRange Code.TestBrakes s = true
 inRange Code.AreaEvent s = eventInRange s
+inRange Code.NewRecord s = newRecordInRange s
+inRange Code.SignalPassed s = signalInRange s
+inRange Code.EndRecord s = leb (byteAt s 0) 254

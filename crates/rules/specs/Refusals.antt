@@ -1,4 +1,4 @@
--- The refusals (01, "Answers": "Checked in this order"; 02, F-3 and F-6).
+-- The refusals (01, "Answers": "Checked in this order"; 02, F-3, F-6 and F-7).
 use Prim.Native.Nat.{ℕ, _+_}
 use mathlib.Core.Bool.{Bool, true, cond, not, _&&_, _||_}
 use mathlib.Core.List.{List, [], _∷_}
@@ -12,7 +12,7 @@ use Rattle.pressure.specs.Phases.{isSet}
 use Rattle.areas.specs.Rows.{isTaken}
 use Rattle.rules.specs.Numbers.{isCode, isState, codeOf, stateOf}
 use Rattle.rules.specs.Operands.{codeByte, numberOf, eventIn, inRange}
-use Rattle.rules.specs.Places.{holdsCurve, allCurvesHeld, holdsSection, standsSection, allSectionsHeld}
+use Rattle.rules.specs.Places.{holdsCurve, allCurvesHeld, holdsSection, standsSection, allSectionsHeld, holdsRecord, allRecordsHeld, keepsRecord}
 use Rattle.rules.specs.BrakeTest.{isRunning}
 use Rattle.rules.specs.Commands.{padded}
 use Rattle.rules.specs.declared.Answer.{Answer}
@@ -58,16 +58,21 @@ isAllowed state Code.BaliseError s = isState State.DA state
 isAllowed state Code.TestBrakes s = true
 -- 02, F-6: "It wants HS or DA."
 isAllowed state Code.AreaEvent s = isState State.HS state || isState State.DA state
+-- 02, F-7: "All three want HS or DA."
+isAllowed state Code.NewRecord s = isState State.HS state || isState State.DA state
+isAllowed state Code.SignalPassed s = isState State.HS state || isState State.DA state
+isAllowed state Code.EndRecord s = isState State.HS state || isState State.DA state
 
 -- "DA is ordered"
 abbrev pub ordersDA : Code → List ℕ → Bool
 ordersDA code s = isCode Code.ChangeState code && isState State.DA (stateOf (byteAt s 0))
 
--- "The id to be ended isn't held, or its section is already ending"
+-- "The id to be ended isn't held, or its section is already ending"; 02, F-7: "refusal 12 covers an id not held"
 unfoldable pub endsNothing : Stm → Code → List ℕ → Bool
 endsNothing stm code s =
     isCode Code.EndCurve code && not (holdsCurve (byteAt s 0) (stm .track .curves))
     || isCode Code.EndSection code && not (standsSection (byteAt s 0) (stm .track .sections))
+    || isCode Code.EndRecord code && not (holdsRecord (byteAt s 0) (stm .track .records))
 
 -- "A new id finds all 16 curves, or all 16 sections, held"
 unfoldable pub findsNoPlace : Stm → Code → List ℕ → Bool
@@ -88,6 +93,14 @@ testsTwice stm code = isCode Code.TestBrakes code && isRunning (stm .test .stage
 unfoldable pub isUntaken : Stm → Code → List ℕ → Bool
 isUntaken stm code s = isCode Code.AreaEvent code && not (isTaken (stm .track .stay .area) (eventIn s))
 
+-- 02, F-7: "17, no ET place free", for an id that is not held; "18, repeater for a record that can't be superseded"
+unfoldable pub findsNoRecordPlace : Stm → Code → List ℕ → Bool
+findsNoRecordPlace stm code s =
+    isCode Code.NewRecord code && not (holdsRecord (byteAt s 0) (stm .track .records)) && allRecordsHeld (stm .track .records)
+
+unfoldable pub repeatsNothing : Stm → Code → List ℕ → Bool
+repeatsNothing stm code s = isCode Code.NewRecord code && keepsRecord (byteAt s 0) (stm .track .records)
+
 -- ---- the list
 
 -- an answer, and when it is given
@@ -104,7 +117,7 @@ firstOf [] = Answer.Accepted
 firstOf (r ∷ rs) = cond (r .applies) (r .answer) (firstOf rs)
 
 -- 5 to 8; "This is the answer once 1–8 are passed"; 9 to 13; 02, F-3: 14 and 15, "both after 10"; 02, F-6: 16, "after
--- 10"
+-- 10"; 02, F-7: 17 and 18, "both after 13, in this order"
 unfoldable pub rulesFor : Stm → List ℕ → Code → List ℕ → List Rule
 rulesFor stm command code s =
     rule (not (stm .control .started) && not (isStart command)) Answer.NotStarted
@@ -120,6 +133,8 @@ rulesFor stm command code s =
     ∷ rule (testsOutside stm code) Answer.OutsideDE
     ∷ rule (testsTwice stm code) Answer.TestRunning
     ∷ rule (isUntaken stm code s) Answer.NotTaken
+    ∷ rule (findsNoRecordPlace stm code s) Answer.NoRecordPlace
+    ∷ rule (repeatsNothing stm code s) Answer.NotSuperseded
     ∷ []
 
 -- the answer to a command that passes 1 to 4

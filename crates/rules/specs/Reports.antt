@@ -1,4 +1,4 @@
--- The report (01, "Report"; 02, F-1, F-3, F-4 and F-6).
+-- The report (01, "Report"; 02, F-1, F-3, F-4, F-6 and F-7).
 use Prim.Native.Nat.{ℕ, _+_, _^_}
 use mathlib.Core.Bool.{Bool, true, false, cond, not, _&&_}
 use mathlib.Core.List.{List, [], _∷_, _++_, map, foldr}
@@ -12,8 +12,8 @@ use Rattle.colours.specs.Numbers.{showingNumber, barNumber, modeNumber}
 use Rattle.colours.specs.Rows.{rowOf}
 use Rattle.areas.specs.Numbers.{areaNumber}
 use Rattle.rules.specs.Numbers.{stateNumber, orderNumber, bitNumber}
-use Rattle.rules.specs.Places.{anyOf}
-use Rattle.rules.specs.Speeds.{brakingOf, judgedNow, vmaxOf, permittedSpeed}
+use Rattle.rules.specs.Places.{anyOf, allCurves}
+use Rattle.rules.specs.Speeds.{brakingOf, judgedBy, judgedNow, vmaxOf, permittedSpeed}
 use Rattle.rules.specs.Table.{causes, stands, orderOf, isDropped}
 use Rattle.rules.specs.BrakeTest.{isRunning, isTestBraking, hasPassed, hasFailed}
 use Rattle.rules.specs.Shows.{chosen, showingOf}
@@ -39,15 +39,16 @@ unfoldable pub causesNumber : Causes → ℕ
 causesNumber c = foldr _+_ 0 (map (λ cause. bitValue (stands c cause) (bitNumber cause)) causes)
 
 -- "messages (bit 0 DRIFTBROMSFEL, 1 NÖDBROMSFEL, 2 TRYCKGIVARFEL at the last odometer report)"; 02, F-3: "The messages gain bit 3
--- running, bit 4 last test passed, bit 5 last test failed"
-unfoldable pub messagesOf : Brakes → Measured → BrakeTest → ℕ
-messagesOf b feedback test =
+-- running, bit 4 last test passed, bit 5 last test failed"; 02, F-7: "messages bit 6 marks a shown ET record"
+unfoldable pub messagesOf : Brakes → Measured → BrakeTest → Bool → ℕ
+messagesOf b feedback test et =
     bitValue (b .drift) 0
     + bitValue (b .failed) 1
     + bitValue (feedback .fault) 2
     + bitValue (isRunning (test .stage)) 3
     + bitValue (hasPassed (test .result)) 4
     + bitValue (hasFailed (test .result)) 5
+    + bitValue et 6
 
 -- "release offered (1 if a fresh LOSS would drop a cause, plus 2 if a fresh text would)"
 abbrev pub wouldDrop : Seen → Bool → Bool → Causes → Bool
@@ -95,20 +96,20 @@ reportWith judged vmax shown seen stm =
     fields (stateNumber State.DA) (orderNumber (orderOf (stm .train .softly) (stm .brakes .causes)))
     (causesNumber (stm .brakes .causes)) (permittedSpeed vmax judged) vmax
     (shownFields (isOver (stm .train) (stm .kept) shown) (isInsufficient (stm .train) (stm .feedback)) shown)
-    (messagesOf (stm .brakes) (stm .feedback) (stm .test))
+    (messagesOf (stm .brakes) (stm .feedback) (stm .test) (shown .et))
     (offeredOf seen (stm .brakes .causes))
     (changeOf (stm .train) (stm .kept) shown)
     (areaNumber (stm .track .stay .area))
 
 unfoldable pub reportInDA : Stm → List ℕ
 reportInDA stm =
-    reportWith (judgedNow (stm .train) (stm .kept) (stm .track .curves)) (vmaxOf (stm .train) (stm .track))
-    (chosen (stm .track .curves) (judgedNow (stm .train) (stm .kept) (stm .track .curves))) (seenIn stm) stm
+    reportWith (judgedNow (stm .train) (stm .kept) (allCurves (stm .track))) (vmaxOf (stm .train) (stm .track))
+    (chosen (judgedBy (stm .train) (stm .kept)) (stm .track)) (seenIn stm) stm
 
 -- "Outside DA order is 0 (FA: 3), id 255, messages as standing, the rest 0"; 02, F-1: FFFFFFFF "outside DA too"
 unfoldable pub reportOutside : State → ℕ → Stm → List ℕ
 reportOutside state order stm =
-    fields (stateNumber state) order 0 0 0 (255 ∷ 0 ∷ 0 ∷ 0 ∷ []) (messagesOf (stm .brakes) (stm .feedback) (stm .test)) 0 never
+    fields (stateNumber state) order 0 0 0 (255 ∷ 0 ∷ 0 ∷ 0 ∷ []) (messagesOf (stm .brakes) (stm .feedback) (stm .test) false) 0 never
     (areaNumber (stm .track .stay .area))
 
 -- 02, F-3: "the report shows order 2 in DE while the test brakes"

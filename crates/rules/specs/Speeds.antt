@@ -7,7 +7,7 @@ use Rattle.curve.specs.declared.Braking.{Braking}
 use Rattle.curve.specs.declared.Judged.{Judged}
 use Rattle.curve.specs.Deceleration.{levelOf}
 use Rattle.curve.specs.Lead.{leadsOf}
-use Rattle.places.specs.Places.{judgedAll, leastPermitted}
+use Rattle.places.specs.Places.{judgedHere, judgedAll, leastPermitted}
 use Rattle.areas.specs.Stays.{areaSpeed}
 use Rattle.rules.specs.declared.Train.{Train}
 use Rattle.rules.specs.declared.Section.{Section}
@@ -22,7 +22,10 @@ brakingOf train halka = record {
   margin = train .margin;
 }
 
--- what every curve says at the last odometer figures
+-- what a curve says at the last odometer figures, and what every one of a list does
+unfoldable pub judgedBy : Train → Kept → Curve → Judged
+judgedBy train kept curve = judgedHere (brakingOf train (kept .halka)) (kept .speed) curve
+
 unfoldable pub judgedNow : Train → Kept → List Curve → List Judged
 judgedNow train kept curves = judgedAll (brakingOf train (kept .halka)) (kept .speed) curves
 

@@ -6,7 +6,7 @@
 
 // ---- answers and codes
 
-// The answers (01, "Answers"; 02, F-3 and F-6): accepted, again, and the refusals 1 to 16 in their order.
+// The answers (01, "Answers"; 02, F-3, F-6 and F-7): accepted, again, and the refusals 1 to 18 in their order.
 pub enum Answer {
     Accepted,
     Again,
@@ -26,9 +26,11 @@ pub enum Answer {
     OutsideDE,
     TestRunning,
     NotTaken,
+    NoRecordPlace,
+    NotSuperseded,
 }
 
-// The commands (01, "Commands"; 02, F-3 and F-6), in the order of their codes.
+// The commands (01, "Commands"; 02, F-3, F-6 and F-7), in the order of their codes.
 pub enum Code {
     Start,
     ChangeState,
@@ -42,6 +44,9 @@ pub enum Code {
     BaliseError,
     TestBrakes,
     AreaEvent,
+    NewRecord,
+    SignalPassed,
+    EndRecord,
 }
 
 // ---- the state
@@ -87,13 +92,14 @@ pub struct Section {
     pub ground: u32,
 }
 
-// What the track has told: curves, sections, the 40 of an unexpected stop, and the stay in an area
-// (02, F-6).
+// What the track has told: curves, sections, the 40 of an unexpected stop, the stay in an area (02, F-6),
+// and the ET records (02, F-7).
 pub struct Track {
     pub curves: [curve::Curve; places::PLACES],
     pub sections: [Section; places::PLACES],
     pub forty: bool,
     pub stay: areas::Stay,
+    pub records: [records::EtRecord; records::RECORDS],
 }
 
 // The causes, in the order of their bits 0 to 11.
@@ -256,8 +262,9 @@ pub enum Order {
     Emergency,
 }
 
-// A place with its curve and what the curve says: one that may be shown.
+// A place with its curve and what the curve says: one that may be shown. `et` is whether it is an ET record's.
 pub struct Candidate {
+    pub et: bool,
     pub curve: curve::Curve,
     pub judged: curve::Judged,
 }

@@ -35,6 +35,10 @@ commands =
     row 0x40 5 ∷
     -- 02, F-6: "A command 50 .. (8 bytes)"
     row 0x50 8 ∷
+    -- 02, F-7: "A command 51 (12 bytes)", "A command 52 (7 bytes)", "A command 53 (6 bytes)"
+    row 0x51 12 ∷
+    row 0x52 7 ∷
+    row 0x53 6 ∷
     []
 
 -- the length in the first of the rows that has the code

@@ -9,7 +9,7 @@ pub struct Row {
 }
 
 // How many codes there are.
-pub const CODES: usize = 12;
+pub const CODES: usize = 15;
 
 // The bytes of the shortest command, a code and a number.
 pub const SHORTEST: usize = 5;
@@ -65,6 +65,18 @@ pub const COMMANDS: [Row; CODES] = [
     Row {
         code: 0x50,
         length: 8,
+    },
+    Row {
+        code: 0x51,
+        length: 12,
+    },
+    Row {
+        code: 0x52,
+        length: 7,
+    },
+    Row {
+        code: 0x53,
+        length: 6,
     },
 ];
 

@@ -4,7 +4,7 @@ use mathlib.Core.Path.{refl}
 use native.Mathlib.Omega.{arith}
 use borrow.Author.Needs.{needs}
 use Rattle.places.specs.Places.{places}
-use Rattle.rules.specs.Places.{freeCurve}
+use Rattle.curve.specs.Free.{freeCurve}
 use Rattle.track.proofs.Loops.{All, all-step, all-end}
 use Rattle.track.proofs.curves.all_curves_held.Statement.{statement}
 use Rattle.track.proofs.curves.all_curves_held.Tie as tie

@@ -5,7 +5,8 @@ use mathlib.Core.Bool.{cond}
 use native.Mathlib.Omega.{arith}
 use borrow.Author.Needs.{needs}
 use Rattle.places.specs.Places.{places}
-use Rattle.rules.specs.Places.{freeCurve, isCurve, endedCurve}
+use Rattle.curve.specs.Free.{freeCurve}
+use Rattle.rules.specs.Places.{isCurve, endedCurve}
 use Rattle.track.proofs.Loops.{Changed, change-step, change-end}
 use Rattle.track.proofs.curves.end_curve.Statement.{statement}
 use Rattle.track.proofs.curves.end_curve.Tie as tie

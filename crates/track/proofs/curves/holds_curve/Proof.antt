@@ -4,7 +4,8 @@ use mathlib.Core.Path.{refl}
 use native.Mathlib.Omega.{arith}
 use borrow.Author.Needs.{needs}
 use Rattle.places.specs.Places.{places}
-use Rattle.rules.specs.Places.{freeCurve, isCurve}
+use Rattle.curve.specs.Free.{freeCurve}
+use Rattle.rules.specs.Places.{isCurve}
 use Rattle.track.proofs.Loops.{Any, any-step, any-end}
 use Rattle.track.proofs.curves.holds_curve.Statement.{statement}
 use Rattle.track.proofs.curves.holds_curve.Tie as tie

@@ -5,7 +5,7 @@ use native.Mathlib.Omega.{arith}
 use borrow.Author.Needs.{needs}
 use borrow.Author.Tests.{not-true, not-false}
 use Rattle.places.specs.Places.{places}
-use Rattle.rules.specs.Places.{freeCurve}
+use Rattle.curve.specs.Free.{freeCurve}
 use Rattle.track.proofs.Loops.{Passed, pass-step, pass-taken, pass-end}
 use Rattle.track.proofs.curves.place_curve.Statement.{statement}
 use Rattle.track.proofs.curves.place_curve.Tie as tie

@@ -4,7 +4,8 @@ use mathlib.Core.Path.{refl}
 use native.Mathlib.Omega.{arith}
 use borrow.Author.Needs.{needs}
 use Rattle.places.specs.Places.{places}
-use Rattle.rules.specs.Places.{freeCurve, replacedCurve}
+use Rattle.curve.specs.Free.{freeCurve}
+use Rattle.rules.specs.Places.{replacedCurve}
 use Rattle.track.proofs.Loops.{Changed, change-step, change-end}
 use Rattle.track.proofs.curves.replace_curve.Statement.{statement}
 use Rattle.track.proofs.curves.replace_curve.Tie as tie
