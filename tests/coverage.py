@@ -6,6 +6,7 @@ crates/answers_run each record is read beside its line. The tables here are writ
 if something claimed is not met, or if an answer or a report is not as the tables and the picture have it.
 """
 
+import functools
 import os
 import struct
 import sys
@@ -63,20 +64,30 @@ OPERANDS = [
     Operand(0x50, "event", 0, "B", (0, 1, 2, 3, 4, 5, 6), (7, 255)),
     Operand(0x50, "speed of a GMD", 1, "H", (10, 300), (0, 9, 301), (0, (1,))),
     *(Operand(0x50, f"speed of event {event}", 1, "H", (0,), (1, 10, 256, 300), (0, (event,))) for event in (0, 2, 3, 4, 5, 6)),
+    Operand(0x51, "id", 0, "B", (0, 254), (255,)),
+    Operand(0x51, "category", 1, "B", (0, 1, 2, 3), (4, 255)),
+    Operand(0x51, "distance", 2, "H", (0, 10000), (10001,)),
+    Operand(0x51, "speed", 4, "H", (10, 300), (9, 301)),
+    Operand(0x51, "gradient", 6, "b", (-30, 30), (-31, 31, -128, 127)),
+    Operand(0x52, "kind", 0, "B", (0, 1), (2, 255)),
+    Operand(0x52, "route", 1, "B", (0, 1), (2, 255)),
+    Operand(0x53, "id", 0, "B", (0, 254), (255,)),
 ]
 
 # What each code is answered in DE, CS, HS, DA and FA, all else being in order.
 CODES = {0x01: (0, 0, 0, 0, 0), 0x10: (0, 0, 0, 0, 8), 0x20: (10, 10, 0, 0, 8), 0x21: (10, 10, 0, 0, 8),
          0x22: (10, 10, 0, 0, 8), 0x23: (10, 10, 0, 0, 8), 0x30: (10, 10, 10, 0, 8), 0x31: (10, 10, 0, 0, 8),
-         0x32: (10, 10, 10, 0, 8), 0x40: (0, 14, 14, 14, 8), 0x50: (10, 10, 0, 0, 8)}
+         0x32: (10, 10, 10, 0, 8), 0x40: (0, 14, 14, 14, 8), 0x50: (10, 10, 0, 0, 8),
+         0x51: (10, 10, 0, 0, 8), 0x52: (10, 10, 0, 0, 8), 0x53: (10, 10, 0, 0, 8)}
 # What command 02 is answered, from each state to DE, CS, HS, DA and FA, where there is a reference pressure.
 PATHS = ((10, 0, 10, 0, 0), (10, 10, 0, 10, 0), (10, 0, 10, 0, 0), (10, 0, 10, 10, 0), (8, 8, 8, 8, 8))
 
 # Two refusals that one command can meet. 9 and 11 cannot (an order of DA is in range), nor 10 and 13 (where 20 and 22
 # are not allowed nothing is held), and 11, 12 and 13 are of different codes. 14 and 15 are of a code that has no operands
-# and is never 10, and a test runs in DE alone. 16 is of a code of its own.
-PAIRS = [(5, 6), (5, 9)] + [(6, n) for n in range(7, 17)] + [(7, n) for n in range(8, 17)] + [
-    (8, n) for n in (*range(9, 15), 16)] + [(9, 10), (9, 12), (9, 13), (9, 16), (10, 11), (10, 12), (10, 16)]
+# and is never 10, and a test runs in DE alone. 16 is of a code of its own, and so are 17 and 18, one of an id that is held and one of
+# an id that is not; where 51 is not allowed no record is held.
+PAIRS = [(5, 6), (5, 9)] + [(6, n) for n in range(7, 19)] + [(7, n) for n in range(8, 19)] + [
+    (8, n) for n in (*range(9, 15), 16, 17, 18)] + [(9, n) for n in (10, 12, 13, 16, 17, 18)] + [(10, 11), (10, 12), (10, 16)]
 
 # Table 4.4-4 of 001 with what 02 adds to it: for each area the area after events 0 to 6, None where the event is not taken. Event 3
 # leads from 8 to 4 too, 50 m on.
@@ -86,6 +97,19 @@ AREAS = {7: (4, 4, None, None, None, 9, 8),
          8: (None, None, 4, 8, 7, 9, None)}
 GMD, NO_OVERLAP = 1, 3
 KEEPING = ["event 0", "event 2", "event 3", "event 4", "event 5", "event 6", "a GMD inside", "the 50 m"]
+
+# Table 4.6-2 of 001: what a main signal for R and for G, and a distant one for R and for G, make of an undecided record of RF, RH, GF, GH.
+SIGNALLED = (("undecided", "undecided", "preliminarily active", "preliminarily passive"),
+             ("definitely active", "terminated", "undecided", "undecided"),
+             ("undecided", "undecided", "preliminarily passive", "preliminarily active"),
+             ("terminated", "definitely active", "undecided", "undecided"))
+DECIDED = {(category, i // 2, i % 2): word for category, row in enumerate(SIGNALLED) for i, word in enumerate(row)}
+CATEGORIES, SIGNALS, ROUTES = ("RF", "RH", "GF", "GH"), ("main", "distant"), ("R", "G")
+ACTIVE = ("definitely active", "preliminarily active")
+AS_CURVES = (*ACTIVE, "locked")
+HELD = ("undecided", *ACTIVE, "preliminarily passive", "locked")  # the conditions of a record that is held
+BETWEEN = ["a repeated report", "a refused report", "a refused record", "a refused signal", "a refused end",
+           "a curve, a section and others", "another record", "a signal that does not control"]
 
 # The causes' strengths: soft, full, emergency.
 STRENGTHS = "SEFSEEEFFSSE"
@@ -109,11 +133,11 @@ def claims():
     yield "States", [f"{code:02X} in {name}: {answer}" for code, row in CODES.items() for name, answer in zip(STATES, row)]
     yield "Paths", [f"{STATES[a]} to {STATES[b]}: {PATHS[a][b]}" for a in range(5) for b in range(5)] + [
         "DE to DA: 11", "HS to DA: 11", "CS to DA: 10 without a reference"]
-    yield "Answers", [f"answer {n}" for n in (0, *range(4, 17), 100)] + [f"{code:02X} again" for code in LENGTHS] + [
-        "again in FA", "again after a refusal", *(f"again where {n} would refuse" for n in (10, 12, 15, 16)),
+    yield "Answers", [f"answer {n}" for n in (0, *range(4, 19), 100)] + [f"{code:02X} again" for code in LENGTHS] + [
+        "again in FA", "again after a refusal", *(f"again where {n} would refuse" for n in (10, 12, 15, 16, 18)),
         "again, with ground under a curve", "same number, other bytes: 7",
         "FFFFFFFF accepted", "after FFFFFFFF: 6", "after FFFFFFFF: 7", "after FFFFFFFF: 100", "after FFFFFFFF: a start",
-        "a refused number accepted", "12 of a curve", "12 of a section", "12 of an ending section", "13 of a curve",
+        "a refused number accepted", "12 of a curve", "12 of a section", "12 of an ending section", "12 of a record", "13 of a curve",
         "13 of a section", "13 with an ending section", "a held curve replaced", "a held curve with a past replaced",
         "an ending section stands again", "a freed curve's place used", "a freed section's place used",
         "start over curves, sections and causes", "CS with curves", "CS with sections", "CS with causes", "CS with the 40",
@@ -245,14 +269,134 @@ def claims():
         f"area {area} kept from {way}" for area in AREAS for way in ("HS to DA", "DA to CS", "HS to CS", "CS to HS", "DA to FA")] + [
         f"a start from area {area}" for area in AREAS] + [
         "FA by the emergency check in area 4", "FA at the report of the 50 m"]
+    yield "F-7", list(record_claims())
     yield "Figures", [
         "VMAX 100: 3,055 no order", "VMAX 100: 3,056 bit 0", "VMAX 100: 2,916 offered", "VMAX 100: 2,917 not offered",
         "P_FULL 380: 956 kPa gives 500 and the message", "full 700: 490 measured frees bit 6", "full 700: 489 doesn't"]
-    yield "Areas", [f"area written at {n}" for n in (0, 100)] + [f"area left alone at {n}" for n in range(1, 17)] + [
+    yield "Areas", [f"area written at {n}" for n in (0, 100)] + [f"area left alone at {n}" for n in range(1, 19)] + [
         f"area of {n} bytes: 1" for n in (0, 14, 18, 20, 32)] + [f"1 before {n}" for n in (2, 3, 4)] + [
-        f"area left alone at {words}" for words in ("12 of a curve", "12 of a section", "12 of an ending section",
+        f"area left alone at {words}" for words in ("12 of a curve", "12 of a section", "12 of an ending section", "12 of a record",
                                                     "13 of a curve", "13 of a section")] + [
         "a refused number accepted, with an area"]
+
+
+def record_claims():
+    """Those of F-7. What is said of a condition is asked for afterwards: by a repeater, by an end, or in DA by a report."""
+    states = ("HS", "DA")
+    for category, kind, route in DECIDED:
+        for name in states:
+            yield f"{CATEGORIES[category]}, {SIGNALS[kind]} {ROUTES[route]}: {DECIDED[category, kind, route]}, {name}"
+    for category, name in enumerate(CATEGORIES):
+        fates = sorted({DECIDED[category, kind, route] for kind in (0, 1) for route in (0, 1)} - {"undecided"})
+        for fate in fates:
+            yield f"{name}, signals that do not control, then {fate}"
+            yield f"{name}, 9,999 cm, then {fate}"
+        for fate in (*fates, "locked"):
+            if fate != "terminated":
+                yield f"{name}, {fate}: all four signals touch nothing"
+        yield f"{name}, 9,999 cm: no curve in DA"
+        for far in ("10,000", "10,001"):
+            for state in states:
+                yield f"{name}, {far} cm: locked, {state}"
+        yield f"{name}, locked after signals that do not control"
+    for kind in SIGNALS:
+        for route in ROUTES:
+            yield f"{kind} {route}: four of eight decided, four not"
+    yield from (f"a signal with no record, {name}" for name in states)
+    yield "a signal that decides none of those held"
+    yield from ("locked over HS and DA", "a new record after over 100 m: undecided", "of four records two locked by their own ground")
+    yield from (f"locked at 10,000 cm with {words} in between" for words in BETWEEN)
+    for condition in HELD:
+        for name in states:
+            yield f"repeater over {condition}: {0 if condition in ACTIVE else 18}, {name}"
+            yield f"53 of {condition}, {name}"
+        yield from (f"{by} drops a record that is {condition}: 12" for by in ("CS", "a start"))
+        yield f"17 with one that is {condition} among the eight"
+    for old in CATEGORIES:
+        yield from (f"{new} repeats {old}" for new in CATEGORIES)
+    yield from ("a repeater of another distance", "a repeater of another speed", "a repeater of the same figures",
+                "a repeater made active again", "a repeater locked", "a repeater terminated", "a repeater made passive",
+                "a repeater takes the shown record away")
+    yield from ("12 of a terminated record", "12 after 53", "12 of a curve's id", "12 of an id never held", "21 of a record's id: 12",
+                "53 leaves a curve of the same id", "21 leaves a record of the same id")
+    yield from (f"17 in {name}" for name in states)
+    yield from ("18 with eight held", "a repeater with eight held", "a ninth after 53", "a ninth after a terminated one",
+                "eight records beside sixteen curves", "eight records after CS", "an ended id given anew")
+    for condition in AS_CURVES:
+        yield from (f"{condition}, shown in {interval}" for interval in INTERVALS[1:])
+        for name in (*curves.BOUNDARIES, "permitted"):
+            yield f"{condition}, {name}: its last cm"
+            yield f"{condition}, {name}: a cm before"
+        yield from (f"{condition}: moved the figure in {interval}, the same" for interval in ("Bf", "B", "C", "D", "E"))
+        yield from (f"{condition}: moved one more in {interval}, another" for interval in ("Bf", "B", "C", "D", "E"))
+        yield from (f"bit {bit} by one that is {condition}" for bit in (2, 3, 4))
+        yield f"LOSS releases none while one that is {condition} brakes"
+        yield f"Ab of one that is {condition}"
+    yield from (f"locked and braking in one report, in {interval}" for interval in "DEF")
+    yield from (f"record boundaries {words}" for words in ("with HALKA", "with the extra", "downhill", "uphill"))
+    yield from ("D, a record brakes, drop sufficient: no order", "a release offered by 53", "a release offered by a repeater",
+                "LOSS drops a record's bits", "52 brings one in F: no cause", "51, 52 and 53 with a cause standing",
+                "bit 11 after a record's order", "FA by a record's order", "permitted speed by a record", "a record shown at d 0")
+    yield from (f"d 0 while undecided, then {fate}" for fate in ("definitely active", "locked", "terminated", "ended"))
+    yield from (f"no Ab of one in B {words}" for words in ("while undecided", "in HS", "before a repeater", "before an end"))
+    yield from ("a curve's past gives a record of its id none", "a record's past gives a curve of its id none")
+    yield from (f"a curve before a record, its id {words}, {interval}" for words in ("lower", "higher", "the same")
+                for interval in ("in A", "later"))
+    yield from ("of records the lowest id", "a record in a later interval than a curve", "a curve in a later interval than a record",
+                "a record that permits less than a curve", "a curve that permits less than a record")
+    yield from (f"{condition} at its target, 100 km/h too fast: nothing" for condition in ("undecided", "preliminarily passive"))
+    yield "preliminarily passive over 200 m: nothing"
+    yield from (f"bit 6 with bit {bit}" for bit in (2, 4, 5))
+    yield from ("an active one in HS: no bit 6", "CS after a shown one: no bit 6", "FA after a shown one: no bit 6")
+
+
+class Board:
+    """An ET record, with the ground and the signals that came after its board. Its condition is told by them."""
+
+    def __init__(self, operands):
+        self.ident, self.category, metres, self.speed, self.gradient = struct.unpack(">BBHHb", operands)
+        self.metres = metres
+        self.came = []  # ground, and signals as kind and route
+        self.past = False
+        self.between, self.states = set(), set()
+        self.asked = set()  # claims that wait for a question
+        self.repeats = None  # the record that it took the place of
+        self.was_in_b = set()  # where it was in B without being a curve
+
+    @property
+    def ground(self):
+        return sum(ground for ground in self.came if isinstance(ground, int))
+
+    @property
+    def d(self):
+        return max(0, 100 * self.metres - self.ground)
+
+    @property
+    def condition(self):
+        far = 0
+        for what in self.came:
+            if isinstance(what, int):
+                far += what
+                if far >= 10000:
+                    return "locked"
+            elif DECIDED[(self.category, *what)] != "undecided":
+                return DECIDED[(self.category, *what)]
+        return "undecided"
+
+    @property
+    def signals(self):
+        return [what for what in self.came if not isinstance(what, int)]
+
+    @property
+    def is_curve(self):
+        return self.condition in AS_CURVES
+
+    def curve(self):
+        return curves.Curve(0, self.d, self.speed, self.gradient, 0)
+
+    @property
+    def figures(self):
+        return self.metres, self.speed, self.gradient
 
 
 class BrakeTest:
@@ -392,6 +536,7 @@ class Coverage:
         self.error = None
         self.test = self.tested = None
         self.track = None
+        self.boards, self.gone = {}, {}
         at_byte = 0
         for self.line, text in enumerate(lines, 1):
             length = LENGTHS.get(stream[at_byte], 0)
@@ -414,6 +559,8 @@ class Coverage:
         self.operands(code, operands, state, answer)
         if code == 0x50 and answer in (0, 16):
             self.event_answered(operands[0], state, answer)
+        if code in (0x51, 0x53) and answer in (0, 12, 17, 18):
+            self.board_asked(code, operands[0], state, answer)
         if answer == 0:
             self.see(f"{code:02X} accepted")
             before = self.picture()
@@ -427,6 +574,7 @@ class Coverage:
             self.see("an error again, and refused", code == 0x32 and self.is_held())
             self.refused_in_test(code, answer)
             self.refused_on_track(code, operands, answer)
+            self.refused_with_boards(code, operands, answer)
             self.expect(not report, "a refusal has no report")
             self.refused_numbers.add(number)
             self.refused_since = True
@@ -451,7 +599,7 @@ class Coverage:
         self.expect(answer == expected, f"the answer is {answer}, not {expected}")
         if answer == 100:
             for n in meets:
-                if n in (10, 12, 15, 16):
+                if n in (10, 12, 15, 16, 18):
                     self.see(f"again where {n} would refuse")
         for n in meets[1:]:
             if (meets[0], n) in PAIRS and answer == meets[0]:
@@ -463,7 +611,7 @@ class Coverage:
         if answer == 7 and number == unit.number and code == unit.last[0]:
             self.see("same number, other bytes: 7")
         if answer == 12:
-            kind = {0x21: "a curve"}.get(code, "an ending section" if operands[0] in unit.sections else "a section")
+            kind = {0x21: "a curve", 0x53: "a record"}.get(code, "an ending section" if operands[0] in unit.sections else "a section")
             self.see(f"12 of {kind}")
         if answer == 13:
             self.see("13 of a curve" if code == 0x20 else "13 of a section")
@@ -486,13 +634,18 @@ class Coverage:
             meets += [12] * (operands[0] not in unit.curves)
         if code == 0x23:
             meets += [12] * (operands[0] not in unit.sections or unit.sections[operands[0]][1] is not None)
+        if code == 0x51:
+            board = self.boards.get(operands[0])
+            meets += [17] * (board is None and len(self.boards) == 8) + [18] * (board is not None and board.condition not in ACTIVE)
+        if code == 0x53:
+            meets += [12] * (operands[0] not in self.boards)
         if code in (0x20, 0x22):
             held = unit.curves if code == 0x20 else unit.sections
             meets += [13] * (operands[0] not in held and len(held) == 16)
         return meets
 
     def operands(self, code, operands, state, answer):
-        if answer in (0, *range(9, 17)):
+        if answer in (0, *range(9, 19)):
             self.expect((answer == 9) != in_range(code, operands), "9 is for an operand out of range")
             for o in OPERANDS:
                 if applies(o, code, operands):
@@ -525,6 +678,8 @@ class Coverage:
         self.see("order 2 again", report[:2] == b"\0\2")
         self.expect(report == self.report, "the report of a repeat is the last one")
         self.repeated_on_track(code, operands)
+        if code == 0x10:
+            self.between_boards("a repeated report")
         self.see("again in FA", report[0] == FA)
         self.see("again after a refusal", self.refused_since)
         self.see("again, with ground under a curve",
@@ -540,6 +695,7 @@ class Coverage:
         old = Picture()
         old.__dict__.update(unit.__dict__)
         old.curves = {ident: dict(c) for ident, c in unit.curves.items()}
+        old.records = {ident: dict(r) for ident, r in unit.records.items()}
         old.sections, old.since = dict(unit.sections), set(unit.since)
         return old
 
@@ -565,6 +721,7 @@ class Coverage:
             self.told(code, operands, before, report)
         self.tests(code, operands, before, report)
         self.on_track(code, operands, before, report)
+        self.with_boards(code, operands, before, report)
         if unit.state in (DA, FA):
             self.braking(code, before, report)
         self.written(report)
@@ -603,8 +760,8 @@ class Coverage:
             self.see("a held curve with a past replaced", held and held["past"])
             self.see("a freed curve's place used", not held and self.freed_curve and len(unit.curves) == 16)
             self.see("past in B kept by a replaced curve",
-                     held and held["past"] and unit.state == DA and report[8] == ident and report[9] == 2)
-            self.see("a curve given in F, no cause", unit.state == DA and report[8:10] == bytes([ident, 8])
+                     held and held["past"] and unit.state == DA and shown_in(report) == (False, ident) and report[9] == 2)
+            self.see("a curve given in F, no cause", unit.state == DA and shown_in(report) == (False, ident) and report[9] == 8
                      and not report[3] & 0b11100)
         elif code == 0x21:
             self.see("a curve removed by 21")
@@ -628,7 +785,7 @@ class Coverage:
             self.error_comes(before, report)
         if unit.state == DA and before.state == DA and self.report[0] == DA:
             old = self.report
-            self.see("another command changes the interval shown", old[8] == report[8] != 255 and old[9] != report[9])
+            self.see("another command changes the interval shown", shown_in(old) == shown_in(report) is not None and old[9] != report[9])
             self.see("another command changes VMAX", old[6:8] != report[6:8])
             self.see("another command changes the offer", old[13] != report[13] and old[2:4] == report[2:4])
             if code not in (0x30, 0x32):
@@ -820,7 +977,7 @@ class Coverage:
     def messages(self, report):
         """Bits 3 to 5 in every state, and the order in DE."""
         runs = self.test is not None
-        self.expect(report[12] >> 3 == runs | (self.tested is True) << 1 | (self.tested is False) << 2, "bits 3 to 5 go by the tests")
+        self.expect(report[12] >> 3 & 7 == runs | (self.tested is True) << 1 | (self.tested is False) << 2, "bits 3 to 5 go by the tests")
         if report[0] == DE:
             self.expect(report[1] == (2 if runs and self.test.phase == "braking" else 0), "the order in DE goes by the test")
         for bit in (4, 5):
@@ -839,8 +996,8 @@ class Coverage:
         self.see("no extra without flag bit 2", not flag and self.ended == [False])
         if not flag:
             return
-        permitted = min([self.unit.vmax] + [curves.permitted(train, c) for c in held.values()])
-        self.expect(struct.unpack(">H", report[4:6])[0] == permitted, "the permitted speed goes by the extra")
+        least = min([self.unit.vmax] + [permitted(train, c) for c in held.values()])
+        self.expect(struct.unpack(">H", report[4:6])[0] == least, "the permitted speed goes by the extra")
         words = "with the extra" if self.extra else "after a pass"
         for name in (*curves.BOUNDARIES, "permitted"):
             here, nearer, farther = (curves.reached(train, shown._replace(d=max(0, shown.d + by)), v, name) for by in (0, -1, 1))
@@ -855,7 +1012,7 @@ class Coverage:
             self.see("an extra downhill", shown.gradient < 0)
             self.see("an extra of an Expect Stop", shown.kind == 1)
             self.see("bit 2 by the extra alone", report[3] & 4 and not self.report[3] & 4 and not curves.brakes(plain, shown, v))
-        self.see("permitted speed by the extra", permitted < min([self.unit.vmax] + [curves.permitted(plain, c) for c in held.values()]))
+        self.see("permitted speed by the extra", least < min([self.unit.vmax] + [permitted(plain, c) for c in held.values()]))
         self.see("a figure by the extra", curves.to_change(train, shown, v) != curves.to_change(plain, shown, v))
 
     # -- F-6: the area is kept here, with all that it goes by
@@ -1062,6 +1219,308 @@ class Coverage:
             self.see("12 of a deleted section that was ending" if track.deleted[operands[0]] else "12 of a deleted section")
         self.see("13 after those", code == 0x22 and answer == 13 and track.has_sixteen_others())
 
+    # -- F-7: each record is kept here with what came after its board
+
+    def see_record(self, key, words):
+        if key[0] and f"{self.boards[key[1]].condition}{words}" in self.seen:
+            self.see(f"{self.boards[key[1]].condition}{words}")
+
+    def between_boards(self, words):
+        for board in self.boards.values():
+            if board.condition == "undecided":
+                board.between.add(words)
+
+    def board_asked(self, code, ident, state, answer):
+        """A record or an end, answered 0, 12, 17 or 18: what it tells of the record that is held."""
+        board, name = self.boards.get(ident), STATES[state]
+        if answer == 17:
+            self.see(f"17 in {name}")
+            for other in self.boards.values():
+                self.see(f"17 with one that is {other.condition} among the eight")
+        if code == 0x53 and answer == 12:
+            self.not_held(ident)
+        if board is None and self.gone.get(ident, (None,))[0] == "terminated" and answer in (0, 12):
+            board = self.gone[ident][1]
+        elif board is None:
+            return
+        elif code == 0x51:
+            self.see(f"repeater over {board.condition}: {answer}, {name}")
+        self.see("18 with eight held", answer == 18 and len(self.boards) == 8)
+        for claim in board.asked:
+            self.see(claim.replace("STATE", name))
+        board.asked.clear()
+
+    def not_held(self, ident):
+        way, board = self.gone.get(ident, (None, None))
+        self.see("12 of a terminated record", way == "terminated")
+        self.see("12 after 53", way == "53")
+        self.see("12 of a curve's id", ident in self.unit.curves)
+        self.see("12 of an id never held", way is None)
+        if way in ("CS", "a start"):
+            self.see(f"{way} drops a record that is {board.condition}: 12")
+
+    def refused_with_boards(self, code, operands, answer):
+        words = {0x10: "a refused report", 0x51: "a refused record", 0x52: "a refused signal", 0x53: "a refused end"}.get(code)
+        if words:
+            self.between_boards(words)
+        self.see("21 of a record's id: 12", code == 0x21 and answer == 12 and operands[0] in self.boards)
+
+    def with_boards(self, code, operands, before, report):
+        self.found = {}  # what this command makes of records: id to the condition it had
+        if code == 0x01 or code == 0x02 and operands[0] == CS:
+            by = "CS" if code == 0x02 else "a start"
+            self.see("CS after a shown one: no bit 6", by == "CS" and self.report[12] & 64 and not report[12] & 64)
+            self.gone = {ident: (by, board) for ident, board in self.boards.items()}
+            self.boards, self.far, self.ended_past = {}, 0, set()
+        elif code == 0x02:
+            self.see("FA after a shown one: no bit 6", operands[0] == FA and self.report[12] & 64 and not report[12] & 64)
+        elif code == 0x10 and before.state in (HS, DA):
+            self.buttons_then = before.buttons
+            self.boards_moved(*struct.unpack(">HH", operands[:4]), before.state, report)
+            self.see("FA by a record's order", report[0] == FA and self.unit.causes & 16 and not self.unit.curves)
+        elif code == 0x51:
+            self.board_passed(Board(operands), report)
+        elif code == 0x52:
+            self.signal_passed(*operands)
+        elif code == 0x53:
+            self.board_ended(operands[0], report)
+        elif code != 0x10:
+            self.between_boards("a curve, a section and others")
+        if code == 0x21 and before.curves[operands[0]]["past"]:
+            self.ended_past.add(operands[0])
+        if code == 0x21 and operands[0] in self.boards:
+            self.see("21 leaves a record of the same id", shown_in(report) == (True, operands[0]))
+        self.expect(report[0] == DA or not report[12] & 64, "bit 6 stands in DA only")
+        self.expect(not report[12] & 128, "bit 7 is free")
+        self.see("an active one in HS: no bit 6", report[0] == HS and any(b.is_curve for b in self.boards.values()))
+        self.see("eight records beside sixteen curves", len(self.boards) == 8 and len(self.unit.curves) == 16)
+        if report[0] == DA and self.report is not None and self.report[0] == DA and code in (0x51, 0x52, 0x53):
+            self.expect(self.report[1:4] == report[1:4], "51, 52 and 53 add no cause and take none")
+            self.see("51, 52 and 53 with a cause standing", report[3])
+
+    def board_passed(self, board, report):
+        ident = board.ident
+        old = self.boards.pop(ident, None)
+        if old is not None:
+            board.repeats = old
+            self.see(f"{CATEGORIES[board.category]} repeats {CATEGORIES[old.category]}")
+            self.see("a repeater of another distance", board.metres != old.metres)
+            self.see("a repeater of another speed", board.speed != old.speed)
+            self.see("a repeater of the same figures", board.figures == old.figures and board.category == old.category)
+            self.see("a repeater with eight held", len(self.boards) == 7)
+            self.see("a repeater takes the shown record away",
+                     self.report[0] == DA and shown_in(self.report) == (True, ident) != shown_in(report))
+            self.see("a release offered by a repeater", report[0] == DA and report[13] & 1 > self.report[13] & 1)
+        else:
+            ways = {way for way, _ in self.gone.values()}
+            last = len(self.boards) == 7
+            self.see("a ninth after 53", last and "53" in ways)
+            self.see("a ninth after a terminated one", last and "terminated" in ways)
+            self.see("eight records after CS", last and "CS" in ways)
+            self.see("an ended id given anew", self.gone.get(ident, (None,))[0] == "53")
+        self.between_boards("another record")
+        if self.far > 10000:
+            board.asked.add("a new record after over 100 m: undecided")
+        board.ended_before = self.gone.pop(ident, (None, None))
+        self.boards[ident] = board
+
+    def signal_passed(self, kind, route):
+        name = STATES[self.unit.state]
+        decided = []
+        self.see(f"a signal with no record, {name}", not self.boards)
+        for ident, board in list(self.boards.items()):
+            was, signals, ground = board.condition, board.signals, board.ground
+            board.came.append((kind, route))
+            now, category = board.condition, CATEGORIES[board.category]
+            if was != "undecided":
+                if {(0, 0), (0, 1), (1, 0), (1, 1)} <= set(board.signals[-4:]) and (was == "locked" or len(signals) > 3):
+                    board.asked.add(f"{category}, {was}: all four signals touch nothing")
+                continue
+            if not signals and not ground:
+                board.asked.add(f"{category}, {SIGNALS[kind]} {ROUTES[route]}: {now}, STATE")
+            if now == "undecided":
+                board.between.add("a signal that does not control")
+                continue
+            board.asked.discard("a new record after over 100 m: undecided")
+            decided.append(board)
+            if signals:
+                board.asked.add(f"{category}, signals that do not control, then {now}")
+            if ground == 9999:
+                board.asked.add(f"{category}, 9,999 cm, then {now}")
+            if board.repeats:
+                board.asked.add({"terminated": "a repeater terminated", "preliminarily passive": "a repeater made passive"}.get(
+                    now, "a repeater made active again"))
+            if board.d == 0 and now in ("definitely active", "terminated"):
+                board.asked.add(f"d 0 while undecided, then {now}")
+            if now == "terminated":
+                del self.boards[ident]
+                self.gone[ident] = "terminated", board
+        self.see("a signal that decides none of those held", self.boards and not decided)
+        if len(decided) == 4 and sum(b.condition == "undecided" for b in self.boards.values()) == 4:
+            for board in decided:
+                board.asked.add(f"{SIGNALS[kind]} {ROUTES[route]}: four of eight decided, four not")
+
+    def board_ended(self, ident, report):
+        board = self.boards.pop(ident)
+        self.gone[ident] = "53", board
+        self.see(f"53 of {board.condition}, {STATES[self.unit.state]}")
+        self.see("d 0 while undecided, then ended", board.condition == "undecided" and board.d == 0)
+        self.see("53 leaves a curve of the same id", report[0] == DA and shown_in(report) == (False, ident))
+        self.see("a release offered by 53", report[0] == DA and report[13] & 1 > self.report[13] & 1)
+
+    def boards_moved(self, v, moved, state, report):
+        self.far += moved
+        train = self.judged()[0]
+        for board in self.boards.values():
+            was = self.found[board.ident] = board.condition
+            board.came.append(moved)
+            if moved:
+                board.states.add(state)
+            interval = curves.interval(train, board.curve(), v)
+            if interval not in ("A", "Bf"):
+                if not board.is_curve:
+                    board.was_in_b.add("while undecided")
+                elif state == HS:
+                    board.was_in_b.add("in HS")
+                else:
+                    board.past = True
+            if was == "undecided":
+                self.board_locked(board, state, report)
+        here = [board.condition for board in self.boards.values()]
+        self.see("of four records two locked by their own ground", sorted(here) == ["locked", "locked", "undecided", "undecided"])
+
+    def board_locked(self, board, state, report):
+        """An undecided record at a report: up to 100 m, and at them."""
+        category, far = CATEGORIES[board.category], board.ground
+        if board.condition == "undecided":
+            self.see(f"{category}, 9,999 cm: no curve in DA", far == 9999 and report[0] == DA and shown_in(report) != (True, board.ident))
+            return
+        board.asked.discard("a new record after over 100 m: undecided")
+        for cm, words in ((10000, "10,000"), (10001, "10,001")):
+            if far == cm:
+                board.asked.add(f"{category}, {words} cm: locked, {STATES[state]}")
+        if board.signals:
+            board.asked.add(f"{category}, locked after signals that do not control")
+        if board.states == {HS, DA}:
+            board.asked.add("locked over HS and DA")
+        if board.repeats:
+            board.asked.add("a repeater locked")
+        if far == 10000:
+            for words in board.between:
+                board.asked.add(f"locked at 10,000 cm with {words} in between")
+        if 100 * board.metres <= far - board.came[-1]:
+            self.see("d 0 while undecided, then locked", report[0] == DA and shown_in(report) == (True, board.ident))
+
+    def boards_in_da(self, train, held, shown, report):
+        """A report in DA with records, of which those that are curves count and the others do not."""
+        unit, v = self.unit, self.unit.v
+        own = {key: permitted(train, c) for key, c in held.items()}
+        least = min([unit.vmax, *own.values()])
+        self.expect(struct.unpack(">H", report[4:6])[0] == least, "the permitted speed has the records' part")
+        self.see("permitted speed by a record", least < min([unit.vmax, *(k for key, k in own.items() if not key[0])]))
+        braking = {key: curves.interval(train, c, v) for key, c in held.items() if curves.brakes(train, c, v)}
+        bits = report[3] & 0b11100
+        if bits == (report[2] << 8 | report[3]):
+            self.expect(not bits or report[13] == (not braking), "a release is offered where no curve and no record brakes")
+        by_record = braking and all(key[0] for key in braking)
+        if self.found:
+            self.boards_judged(train, held, shown, braking, by_record, report)
+        elif by_record and not bits:
+            self.see("52 brings one in F: no cause", "F" in braking.values())
+        if shown is not None and shown[0]:
+            self.record_shown(train, held, shown, own, report)
+        elif shown is not None and held[shown] and any(key[0] for key in held):
+            self.curve_shown(train, held, shown, own)
+        for board in self.boards.values():
+            self.board_unseen(board, held, v, report)
+
+    def boards_judged(self, train, held, shown, braking, by_record, report):
+        """The causes at a report in DA, by the curves and records that brake."""
+        unit = self.unit
+        enough = unit.drop >= unit.train["sufficient"]
+        ordered = [n for n in braking.values() if n in "EF" or not enough]
+        due = (8 if train.halka else 4) * bool(ordered) + 16 * ("F" in ordered)
+        then = self.report[3] & 0b11100 if self.report[0] == DA else 0
+        bits = report[3] & 0b11100
+        self.expect(bits & due == due, "a braking curve or record orders")
+        self.expect(not bits & ~(due | then), "no other does")
+        self.see("D, a record brakes, drop sufficient: no order", by_record and set(braking.values()) == {"D"} and enough and not bits)
+        self.see("LOSS drops a record's bits", then and not bits and len(held) == 0)
+        fresh = unit.buttons & LOSS and not self.buttons_then & LOSS
+        if by_record:
+            for _, ident in braking:
+                condition = self.boards[ident].condition
+                for bit in (2, 3, 4):
+                    self.see(f"bit {bit} by one that is {condition}", bits & ~then & due & 1 << bit and len(braking) == 1)
+                if fresh and then and bits & then == then:
+                    self.see(f"LOSS releases none while one that is {condition} brakes")
+                if self.found.get(ident) == "undecided" and braking[True, ident] in "DEF":
+                    self.see(f"locked and braking in one report, in {braking[True, ident]}", bits & ~then or braking[True, ident] == "D")
+            self.see("bit 11 after a record's order", report[2] & 8)
+
+    def record_shown(self, train, held, shown, own, report):
+        unit, board = self.unit, self.boards[shown[1]]
+        now, v = curves.interval(train, held[shown], unit.v), unit.v
+        told = INTERVALS[report[9]]
+        self.expect(told == ("Ab" if board.past and now in ("A", "Bf") else now), "a record past in B is shown as Ab")
+        condition = board.condition
+        self.see(f"{condition}, shown in {told}")
+        for name in (*curves.BOUNDARIES, "permitted"):
+            here, nearer, farther = (curves.reached(train, held[shown]._replace(d=max(0, board.d + by)), v, name) for by in (0, -1, 1))
+            last, before = here and not farther, nearer and not here
+            self.see(f"{condition}, {name}: its last cm", last)
+            self.see(f"{condition}, {name}: a cm before", before)
+            if last:
+                self.see("record boundaries with HALKA", train.halka)
+                self.see("record boundaries with the extra", self.extra)
+        if now not in ("A", "Bf"):
+            self.see("record boundaries downhill", board.gradient < 0)
+            self.see("record boundaries uphill", board.gradient > 0)
+        self.see(f"Ab of one that is {condition}", told == "Ab")
+        if told in ("A", "Bf") and now in ("A", "Bf"):
+            for words in ("while undecided", "in HS"):
+                self.see(f"no Ab of one in B {words}", board.was_in_b == {words})
+            self.see("no Ab of one in B before a repeater", board.repeats and board.repeats.past)
+            way, old = board.ended_before
+            self.see("no Ab of one in B before an end", way == "53" and old.past)
+            self.see("a curve's past gives a record of its id none", not board.repeats and shown[1] in self.ended_past)
+        for bit in (2, 4, 5):
+            self.see(f"bit 6 with bit {bit}", report[12] >> bit & 1)
+        rank = self.rank_of(train, held)
+        others = [key for key in held if not key[0]]
+        if others:
+            self.see("a record in a later interval than a curve", all(rank[key] < rank[shown] for key in others))
+            self.see("a record that permits less than a curve", any(rank[key] == rank[shown] and own[key] > own[shown] for key in others))
+
+    def curve_shown(self, train, held, shown, own):
+        rank = self.rank_of(train, held)
+        records = [key for key in held if key[0]]
+        self.see("a curve in a later interval than a record", all(rank[key] < rank[shown] for key in records))
+        self.see("a curve that permits less than a record", any(rank[key] == rank[shown] and own[key] > own[shown] for key in records))
+        now = curves.interval(train, held[shown], self.unit.v)
+        old = self.boards.get(shown[1]) or self.gone.get(shown[1], (None, None))[1]
+        self.see("a record's past gives a curve of its id none",
+                 old and old.past and now in ("A", "Bf") and not self.unit.curves[shown[1]]["past"])
+
+    def rank_of(self, train, held):
+        return {key: ("A", *curves.BOUNDARIES).index(curves.interval(train, c, self.unit.v)) for key, c in held.items()}
+
+    def shown_before(self, lowest, interval):
+        """Of those that are equal in interval and permitted speed."""
+        curve, record = (min((n for is_record, n in lowest if is_record == of), default=None) for of in (False, True))
+        if record is not None and curve is not None:
+            words = "lower" if curve < record else "higher" if curve > record else "the same"
+            self.see(f"a curve before a record, its id {words}, {interval}")
+        self.see("of records the lowest id", curve is None and len(lowest) > 1)
+
+    def board_unseen(self, board, held, v, report):
+        """A record that is no curve: with nothing else held, nothing is shown and nothing ordered."""
+        if held or board.is_curve:
+            return
+        nothing = report[1:4] == b"\0\0\0" and report[4:6] == report[6:8] and report[8:12] == b"\xff\0\0\0"
+        self.see(f"{board.condition} at its target, 100 km/h too fast: nothing", nothing and board.d == 0 and v >= at(board.speed + 100))
+        self.see("preliminarily passive over 200 m: nothing", nothing and board.condition == "preliminarily passive" and board.ground > 20000)
+
     # -- F-2: an error is kept here with its speed, and with the number of reports in DA since
 
     def is_held(self):
@@ -1162,7 +1621,7 @@ class Coverage:
         if causes == 1 << 9:
             self.see("bit 9 offered at 80 km/h", v == upto(80) and offer == 1)
             self.see("bit 9 not offered a cm/s above", v == upto(80) + 1 and offer == 0)
-        braking = [unit.interval(c, v) for c in unit.curves.values() if unit.brakes(c, v)]
+        braking = [unit.interval(c, v) for c in unit.supervised if unit.brakes(c, v)]
         if braking and set(braking) == {"D"}:
             enough = unit.train["sufficient"]
             self.see("D, braking, drop sufficient: no order", unit.drop == enough and not causes & 0b1100)
@@ -1240,7 +1699,7 @@ class Coverage:
             self.see("FA at the T_EBCHK-th report")
             self.see("FA by both checks at one report" if fault else "FA by the emergency check alone")
             fresh = buttons & ~before.buttons
-            left = unit.causes & ~unit.releasable(unit.v, any(unit.brakes(c, unit.v) for c in unit.curves.values()))
+            left = unit.causes & ~unit.releasable(unit.v, any(unit.brakes(c, unit.v) for c in unit.supervised))
             self.see("FA at a fresh LOSS that would release all", fresh & LOSS and not left)
         if before.service is not None:
             at_limit = before.service + 1 == t_b
@@ -1299,24 +1758,28 @@ class Coverage:
         if len(least) == 1:
             self.see(least[0])
         self.see(f"interval, bar, mode: {INTERVALS[report[9]]}, {report[10]}, {report[11]}")
-        self.expect((report[8] == 255) == (not unit.curves), "a curve is shown where one is held")
-        if unit.curves:
-            self.see("in B in HS, then A or Bf in DA", report[8] in self.b_in_hs and report[9] in (1, 3))
-            self.see("a curve shown at d 0", unit.curves[report[8]]["d"] == 0)
-            self.shown(report[8])
-        self.change(report)
+        train, held = self.judged()
+        shown = shown_in(report)
+        self.expect(shown in held if held else shown is None, "a curve or record is shown where one is held")
+        if shown in held:
+            of_record, ident = shown
+            self.see("in B in HS, then A or Bf in DA", not of_record and ident in self.b_in_hs and report[9] in (1, 3))
+            self.see("a record shown at d 0" if of_record else "a curve shown at d 0", held[shown].d == 0)
+            self.shown(train, held, shown)
+        if self.boards:
+            self.boards_in_da(train, held, shown, report)
+        self.change(train, held, shown, report)
 
-    def change(self, report):
+    def change(self, train, held, key, report):
         """The figure of the shown curve, by halving, and what the report before it told."""
         unit, figure = self.unit, struct.unpack(">I", report[14:18])[0]
-        if report[8] == 255:
+        if key not in held:
             self.expect(figure == LAST, "no figure where no curve is shown")
             self.see("no curve")
             self.row(report, False)
             self.figure_before = None
             return
-        train, held = self.judged()
-        shown = held[report[8]]
+        shown = held[key]
         now = curves.interval(train, shown, unit.v)
         self.expect(figure == curves.to_change(train, shown, unit.v), "the figure is the most with no change")
         self.expect(INTERVALS[report[9]] == now or report[9] == 2 and now in ("A", "Bf"), "the interval is the computed one, or Ab")
@@ -1337,25 +1800,27 @@ class Coverage:
         if shown == curves.MARKED_40._replace(d=shown.d) and train == curves.MARKED and unit.v == 2500:
             self.see("43,324 cm: 7,499", shown.d == 43324 and figure == 7499)
             self.see("43,325 cm: 0", shown.d == 43325 and figure == 0)
-        self.against(train, unit.v, report, shown, now)
+        self.against(train, unit.v, report, key, shown, now)
         over = curves.reached(train, shown, unit.v, "permitted")
         self.row(report, over)
-        self.figure_before = (report[8], train, unit.v, shown, now, INTERVALS[report[9]], figure, over)
+        self.figure_before = (key, train, unit.v, shown, now, INTERVALS[report[9]], figure, over)
 
-    def against(self, train, v, report, shown, now):
+    def against(self, train, v, report, key, shown, now):
         """This report and the figure before it, of the same curve."""
-        if self.figure_before is None or self.figure_before[0] != report[8]:
+        if self.figure_before is None or self.figure_before[0] != key:
             return
-        ident, train_then, v_then, then, interval, told, figure, over = self.figure_before
+        _, train_then, v_then, then, interval, told, figure, over = self.figure_before
         if then._replace(d=0) == shown._replace(d=0) and (train_then, v_then) == (train, v) and then.d > shown.d:
             moved = then.d - shown.d
             if moved <= figure:
                 self.expect(now == interval, "up to the figure the interval stays")
             if moved == figure:
                 self.see(f"{told}: moved the figure, the same")
+                self.see_record(key, f": moved the figure in {told}, the same")
             if moved == figure + 1:
                 self.expect(now != interval, "one cm more is another interval")
                 self.see(f"{told}: moved one more, another")
+                self.see_record(key, f": moved one more in {told}, another")
                 self.see("an interval passed over", curves.BOUNDARIES.index(now) > (("A",) + curves.BOUNDARIES).index(interval))
             self.see("past the permitted boundary in B, no change",
                      interval == now == "B" and not over and curves.reached(train, shown, v, "permitted"))
@@ -1372,11 +1837,12 @@ class Coverage:
         self.see(f"row {held[0]}, drop {'sufficient' if sufficient else 'insufficient'}")
 
     def judged(self):
-        """The train and the curves as tests/curve.py has them."""
+        """The train, and the curves and the records that are curves, as tests/curve.py has them: by whether it is a record, and by id."""
         unit, t = self.unit, self.unit.train
         train = curves.Train(t["full"], t["soft"], int(bool(unit.buttons & HALKA)), t["t_b"] + self.extra, t["g_c"], t["g_p"],
                              t["g_bf"], t["f_margin"])
-        return train, {n: curves.Curve(c["kind"], c["d"], c["speed"], c["gradient"], 0) for n, c in unit.curves.items()}
+        held = {(False, n): curves.Curve(c["kind"], c["d"], c["speed"], c["gradient"], 0) for n, c in unit.curves.items()}
+        return train, held | {(True, n): board.curve() for n, board in self.boards.items() if board.is_curve}
 
     def orders(self, order, causes):
         flag = self.unit.train["flags"] & 1
@@ -1393,28 +1859,28 @@ class Coverage:
                 self.see(f"bit {bit} makes order 3")
         self.see("soft and full, flag bit 0 1: order 2", flag and set(standing) == {"S", "F"})
 
-    def shown(self, ident):
+    def shown(self, train, held, ident):
         """By what the shown curve is the first: with two or more held."""
         unit = self.unit
-        if len(unit.curves) < 2:
+        if len(held) < 2:
             return
-        train, held = self.judged()
         ranks = {n: ("A", "Bf", "B", "C", "D", "E", "F").index(curves.interval(train, c, unit.v)) for n, c in held.items()}
         latest = [n for n in held if ranks[n] == max(ranks.values())]
         self.expect(ident in latest, "the shown curve is in the latest interval")
         if len(latest) == 1:
             self.see("shown by interval")
             if self.seen["shown by interval, not the lowest permitted"] < 5:
-                own = {n: curves.permitted(train, c) for n, c in held.items()}
+                own = {n: permitted(train, c) for n, c in held.items()}
                 self.see("shown by interval, not the lowest permitted", own[ident] > min(own.values()))
             return
-        own = {n: curves.permitted(train, held[n]) for n in latest}
+        own = {n: permitted(train, held[n]) for n in latest}
         lowest = [n for n in latest if own[n] == min(own.values())]
-        self.expect(ident == min(lowest), "the shown curve permits the least, with the lowest id")
+        self.expect(ident == min(lowest), "the shown one permits the least, a curve before a record, with the lowest id")
         if len(lowest) == 1:
             self.see("shown by permitted speed, not the lowest id", ident != min(latest))
         else:
             self.see("shown by id")
+        self.shown_before(lowest, "in A" if max(ranks.values()) == 0 else "later")
 
     # -- areas
 
@@ -1444,7 +1910,7 @@ class Coverage:
                 if code not in LENGTHS or len(command) != LENGTHS[code]:
                     self.see(f"1 before {2 if code is None else 4 if code in LENGTHS else 3}")
             elif answer == 12:
-                kind = "a curve" if code == 0x21 else "an ending section" if command[5] in given else "a section"
+                kind = {0x21: "a curve", 0x53: "a record"}.get(code, "an ending section" if command[5] in given else "a section")
                 self.see(f"area left alone at 12 of {kind}")
             elif answer == 13:
                 self.see(f"area left alone at 13 of a {'curve' if code == 0x20 else 'section'}")
@@ -1460,6 +1926,16 @@ class Coverage:
         for words in self.wrong[:20]:
             print(f"WRONG {words}")
         return 1 if self.wrong or not all(self.seen.values()) else 0
+
+
+def shown_in(report):
+    """Whether the shown id is a record's, and the id; None where none is shown."""
+    return None if report[8] == 255 else (bool(report[12] & 64), report[8])
+
+
+@functools.cache
+def permitted(train, curve):
+    return curves.permitted(train, curve)
 
 
 def applies(o, code, operands):

@@ -107,6 +107,10 @@ def active(ident, *figures, category=RH):
     decide(category, own(category))
 
 
+def preliminarily(ident, *figures):
+    active(ident, *figures, category=GF)
+
+
 def passive(ident, *figures, category=RF):
     record(ident, category, *figures)
     decide(category, 1 - own(category))
@@ -193,8 +197,9 @@ def all_at_once():
 
 def is_locked(ident, category):
     """Of a record past the 100 m: signals and a repeater leave it."""
-    for route in (1 - own(category), own(category)):
-        decide(category, route)
+    for kind in KINDS:
+        for route in ROUTES:
+            signal(kind, route)
     odometer(1000)
     refused(0x51, board(ident, category))
     end(ident)
@@ -337,6 +342,15 @@ def repeaters():
             ground(10000, SPEED)
             refused(0x51, board(1, category))
             end(1)
+            # for the other route
+            active(1, 3000, 50, category=was)
+            record(1, category, 3000, 50)
+            decide(category, 1 - own(category))
+            odometer(SPEED)
+            if controlling(category) == DISTANT:
+                refused(0x51, board(1, category))
+                end(1)
+            refused(0x53, b"\1")
         record(1, category)
         refused(0x51, board(1, category))
         odometer(SPEED)
@@ -525,9 +539,10 @@ def dropped():
     """CS and a start drop records of each condition, and their places."""
     for leave in (lambda: state(CS, HS), in_hs, in_da):
         in_da()
-        for ident in range(2):
-            passive(ident)
-            active(2 + ident)
+        passive(0)
+        active(1, category=GF)
+        for ident in (2, 3):
+            active(ident)
         for ident in range(4, 6):
             record(ident, GH)
         ground(10000)
@@ -577,6 +592,7 @@ def through_the_intervals(make, buttons=0, b=FULL, flags=0):
         odometer(SPEED, 1, buttons)
         again()
         odometer(SPEED, 1, buttons)
+        odometer(SPEED, 0, buttons | LOSS)
         odometer(1388, 0, buttons)
         odometer(1388, 0, buttons | LOSS)
         odometer(1389, 0, buttons, 800)
@@ -590,7 +606,7 @@ def braking():
     in_da()
     for make in (RH, GH, RF, GF, "locked"):
         through_the_intervals(make)
-    for make in (RF, "locked"):
+    for make in (RH, RF, "locked"):
         through_the_intervals(make, HALKA, SOFT)
     in_da(flags=4)
     for make in (GH, "locked"):
@@ -615,7 +631,7 @@ def braking():
 
 def locked_and_braking():
     """Nothing a centimetre before the 100 m; at them the record brakes in that very report."""
-    for metres, speed, buttons in ((100, SPEED, 0), (450, SPEED, 0), (350, SPEED, 0), (200, SPEED, HALKA), (500, 4000, 0)):
+    for metres, speed, buttons in ((100, SPEED, 0), (500, SPEED, 0), (450, SPEED, 0), (350, SPEED, 0), (200, SPEED, HALKA), (500, 4000, 0)):
         in_da()
         record(7, RH, metres, 40)
         ground(9999, speed, buttons)
@@ -656,6 +672,10 @@ def run_out():
                 odometer(SPEED, 1)
             odometer(1111, 0, 0, 800)
             odometer(1111, 0, LOSS, 800)
+            if way in ("signal", "ground"):
+                end(1)
+            else:
+                refused(0x53, b"\1")
     # the record's target is the last that it was given; passive too
     in_da()
     passive(1, 0, 40)
@@ -695,7 +715,7 @@ def no_cause_before_a_report():
     odometer(SPEED)
     # service ordered by a record, with no drop by T_B; emergency with none by T_EBCHK
     in_da(t_b=3)
-    active(1, 390, 40)
+    active(1, 350, 40)
     for _ in range(5):
         odometer(SPEED)
     end(1)
@@ -714,7 +734,7 @@ def past_in_b():
     active(1, near, 40)
     odometer(SPEED)
     odometer(1200)
-    active(2, near + 10, 40, category=GF)
+    active(2, near - 10, 40, category=GF)
     odometer(1200)
     end(1)
     odometer(SPEED)
@@ -773,16 +793,16 @@ def shown():
     # a curve before a record, equal in all: with either id
     for of_curve, of_record in ((3, 7), (7, 3), (5, 5), (0, 254), (254, 0)):
         for make in (active, locked):
-            for fast in (1000, SPEED):
-                make(of_record, 1000 if make == active else 1100, 40)
-                curve(of_curve, 1000, 40)
+            for fast, metres in ((1000, 1000), (SPEED, 1000), (SPEED, 600)):
+                make(of_record, metres if make == active else metres + 100, 40)
+                curve(of_curve, metres, 40)
                 odometer(fast)
                 curve_end(of_curve)
-                curve(of_curve, 1000, 40)
+                curve(of_curve, metres, 40)
                 end(of_record)
-                make(of_record, 1000 if make == active else 1100, 40)
+                make(of_record, metres if make == active else metres + 100, 40)
                 if make == locked:
-                    curve(of_curve, 1000, 40)
+                    curve(of_curve, metres, 40)
                 odometer(fast)
                 curve_end(of_curve)
                 odometer(fast)
@@ -875,7 +895,7 @@ def in_reports():
 def next_change():
     """The figure of a shown record, met and then passed by a centimetre."""
     in_da()
-    for make in (active, locked):
+    for make in (active, preliminarily, locked):
         for here, then in (("Bf", "B"), ("B", "C"), ("C", "D"), ("D", "E"), ("E", "F")):
             d = reaches(here)
             far = d - reaches(then) - 1
