@@ -1244,7 +1244,7 @@ class Coverage:
         elif board is None:
             return
         elif code == 0x51:
-            self.see(f"repeater over {board.condition}: {answer}, {name}")
+            self.see(f"repeater over {board.condition}: {0 if board.condition in ACTIVE else 18}, {name}")
         self.see("18 with eight held", answer == 18 and len(self.boards) == 8)
         for claim in board.asked:
             self.see(claim.replace("STATE", name))
