@@ -4,16 +4,16 @@ mod text;
 
 use curve::Braking;
 use curve::Curve;
-use curve::Direction;
-use curve::Gradient;
 use curve::Interval;
 use curve::Judged;
 use curve::Kind;
+use curve::free_curve;
 use fields::braking_of;
 use fields::curve_of;
 use fields::moved_of;
 use fields::place_of;
 use fields::speed_of;
+use places::CURVES;
 use places::PLACES;
 use text::put;
 use text::put_flag;
@@ -102,7 +102,7 @@ fn put_in_place(r: &[u8], held: bool, curves: [Curve; PLACES]) -> [Curve; PLACES
     next
 }
 
-fn put_any(name: &[u8], interval: Interval, judged: [Judged; PLACES]) {
+fn put_any(name: &[u8], interval: Interval, judged: [Judged; CURVES]) {
     put(name);
     if places::any_brakes(interval, judged) {
         put(b"1");
@@ -112,7 +112,7 @@ fn put_any(name: &[u8], interval: Interval, judged: [Judged; PLACES]) {
 }
 
 // What all places say together.
-fn put_all(v: u16, judged: [Judged; PLACES]) {
+fn put_all(v: u16, judged: [Judged; CURVES]) {
     put_number(b"all v ", v as u64);
     put_number(b": permitted ", places::least_permitted(judged) as u64);
     put_any(b" D ", Interval::D, judged);
@@ -121,7 +121,7 @@ fn put_all(v: u16, judged: [Judged; PLACES]) {
 }
 
 // What one place says, of all that were moved, judged and noted.
-fn put_place(at: usize, noted: [Curve; PLACES], judged: [Judged; PLACES]) {
+fn put_place(at: usize, noted: [Curve; PLACES], judged: [Judged; CURVES]) {
     put_number(b" place ", at as u64);
     if at < PLACES {
         let c = noted[at];
@@ -135,11 +135,22 @@ fn put_place(at: usize, noted: [Curve; PLACES], judged: [Judged; PLACES]) {
     put(b" none");
 }
 
+// The places, and behind them those of records, which hold none.
+fn with_more(curves: [Curve; PLACES]) -> [Curve; CURVES] {
+    let none = free_curve();
+    let mut all = [none; CURVES];
+    for i in 0..PLACES {
+        let c = curves[i];
+        all[i] = c;
+    }
+    all
+}
+
 // Moves, judges and notes every place, and prints what all say together and what the record's place says.
 fn judge_places(r: &[u8], curves: [Curve; PLACES]) -> [Curve; PLACES] {
     let v = speed_of(r);
     let moved = places::move_all(curves, moved_of(r));
-    let judged = places::judge_all(moved, braking_of(r), v);
+    let judged = places::judge_all(with_more(moved), braking_of(r), v);
     let noted = places::note_all(moved, judged);
     put_all(v, judged);
     put_place(place_of(r), noted, judged);
@@ -176,24 +187,8 @@ fn turn(curves: [Curve; PLACES]) -> Outcome {
     }
 }
 
-// A place that holds no curve.
-fn no_curve() -> Curve {
-    Curve {
-        held: false,
-        id: 0,
-        kind: Kind::SpeedTarget,
-        distance: 0,
-        speed: 0,
-        gradient: Gradient {
-            direction: Direction::Up,
-            size: 0,
-        },
-        past: false,
-    }
-}
-
 fn no_curves() -> [Curve; PLACES] {
-    let c = no_curve();
+    let c = free_curve();
     [c; PLACES]
 }
 

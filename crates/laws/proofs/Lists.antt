@@ -58,26 +58,33 @@ module _ {A : Type 0} where
   pub copy-past : (source target : List A) (i : ℕ) → length source ≤ i → length target ≤ i → take i source ++ drop i target ≡ source
   copy-past source target i h k = rw (take-all i source h, drop-of-length-le target k, append-nil)
 
--- the element of a changed list, and of two lists joined element by element
+-- the element of a changed list, and of two lists joined element by element, the second at least as long
 pub getD-map : {A B : Type 0} (f : A → B) (l : List A) (i : ℕ) (d : A) → getD (map f l) i (f d) ≡ f (getD l i d)
 getD-map f [] i d = refl
 getD-map f (x ∷ xs) zero d = refl
 getD-map f (x ∷ xs) (suc i) d = getD-map f xs i d
 
-pub length-zip : {A B C : Type 0} (f : A → B → C) (xs : List A) (ys : List B) → length xs ≡ length ys → length (zipWith f xs ys) ≡ length xs
-unfolding zipWith
-length-zip f [] ys e = refl
-length-zip f (x ∷ xs) [] e = sym e
-length-zip f (x ∷ xs) (y ∷ ys) e = ap suc (length-zip f xs ys (suc-inj e))
+module _ {A B C : Type 0} (f : A → B → C) where
+  pub length-zip : (xs : List A) (ys : List B) → length xs ≤ length ys → length (zipWith f xs ys) ≡ length xs
+  unfolding zipWith
+  length-zip [] ys e = refl
+  length-zip (x ∷ xs) [] e = absurd (not-suc-le-zero e)
+  length-zip (x ∷ xs) (y ∷ ys) e = ap suc (length-zip xs ys (le-of-suc-le-suc e))
 
-pub getD-zip : {A B C : Type 0} (f : A → B → C) (xs : List A) (ys : List B) (i : ℕ) (a : A) (b : B) → length xs ≡ length ys
-    → getD (zipWith f xs ys) i (f a b) ≡ f (getD xs i a) (getD ys i b)
-unfolding zipWith
-getD-zip f [] [] i a b e = refl
-getD-zip f [] (y ∷ ys) i a b e = absurd (suc-ne-zero _ (sym e))
-getD-zip f (x ∷ xs) [] i a b e = absurd (suc-ne-zero _ e)
-getD-zip f (x ∷ xs) (y ∷ ys) zero a b e = refl
-getD-zip f (x ∷ xs) (y ∷ ys) (suc i) a b e = getD-zip f xs ys i a b (suc-inj e)
+  pub getD-zip : (xs : List A) (ys : List B) (i : ℕ) (a : A) (b : B) → length xs ≤ length ys → i < length xs
+      → getD (zipWith f xs ys) i (f a b) ≡ f (getD xs i a) (getD ys i b)
+  unfolding zipWith
+  getD-zip [] ys i a b e h = absurd (not-suc-le-zero h)
+  getD-zip (x ∷ xs) [] i a b e h = absurd (not-suc-le-zero e)
+  getD-zip (x ∷ xs) (y ∷ ys) zero a b e h = refl
+  getD-zip (x ∷ xs) (y ∷ ys) (suc i) a b e h = getD-zip xs ys i a b (le-of-suc-le-suc e) (le-of-suc-le-suc h)
+
+  -- what the second has beyond the first plays no part
+  pub zip-longer : (xs : List A) (ys more : List B) → length xs ≤ length ys → zipWith f xs (ys ++ more) ≡ zipWith f xs ys
+  unfolding zipWith
+  zip-longer [] ys more e = refl
+  zip-longer (x ∷ xs) [] more e = absurd (not-suc-le-zero e)
+  zip-longer (x ∷ xs) (y ∷ ys) more e = ap (λ zs. f x y ∷ zs) (zip-longer xs ys more (le-of-suc-le-suc e))
 
 -- one element more of a changed list over another, and of two lists joined element by element
 pub map-step : {A B : Type 0} (f : A → B) (l : List A) (t : List B) (i : ℕ) (d : A) {x : B}
@@ -87,11 +94,11 @@ map-step f l t i d e h k =
     rw (e, sym (getD-map f l i d)) (copy-step (map f l) t i (f d) (rw (length-map l f) h) k)
 
 pub zip-step : {A B C : Type 0} (f : A → B → C) (xs : List A) (ys : List B) (t : List C) (i : ℕ) (a : A) (b : B) {x : C}
-    → x ≡ f (getD xs i a) (getD ys i b) → length xs ≡ length ys → i < length xs → i < length t
+    → x ≡ f (getD xs i a) (getD ys i b) → length xs ≤ length ys → i < length xs → i < length t
     → set (take i (zipWith f xs ys) ++ drop i t) i x ≡ take (i + 1) (zipWith f xs ys) ++ drop (i + 1) t
-zip-step f xs ys t i a b e same h k =
-    rw (e, sym (getD-zip f xs ys i a b same))
-    (copy-step (zipWith f xs ys) t i (f a b) (rw (length-zip f xs ys same) h) k)
+zip-step f xs ys t i a b e longer h k =
+    rw (e, sym (getD-zip f xs ys i a b longer h))
+    (copy-step (zipWith f xs ys) t i (f a b) (rw (length-zip f xs ys longer) h) k)
 
 -- the rest of a list from a place on, by its first element
 pub drop-step : {A : Type 0} (l : List A) (i : ℕ) (d : A) → i < length l → drop i l ≡ getD l i d ∷ drop (i + 1) l

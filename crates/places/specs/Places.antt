@@ -16,6 +16,10 @@ use Rattle.curve.specs.declared.Judged.{Judged}
 abbrev pub places : ℕ
 places = 16
 
+-- these and 02's eight ET records (F-7), all of which may be curves
+abbrev pub mostCurves : ℕ
+mostCurves = 24
+
 -- "d falls by the ground moved", for every curve held; a place that holds none stays as it is
 abbrev pub movedHere : ℕ → Curve → Curve
 movedHere moved curve = cond (curve .held) (movedBy curve moved) curve

@@ -1,4 +1,4 @@
-// The sixteen places of curves: what is done to all of them, or asked of all.
+// The places of curves: what is done to all of them, or asked of all.
 ghost use mathlib.Core.Path.{_≡_};
 ghost use Prim.Native.Nat.{min};
 ghost use Rattle.places.specs.Places.{movedHere, movedAll, noneJudged, judgedHere, judgedAll, notedAll, permittedHere, leastPermitted, brakesFrom, anyBrakes};
@@ -14,6 +14,9 @@ use interval::rank_of;
 
 // How many curves a unit holds.
 pub const PLACES: usize = 16;
+
+// How many may be curves at once: those, and the eight ET records, which are curves while they are active or locked.
+pub const CURVES: usize = 24;
 
 // A place after so many cm moved; one that holds no curve stays as it is.
 fn moved_here(curve: Curve, moved: u16) -> Curve
@@ -62,12 +65,12 @@ fn judge_here(curve: Curve, braking: Braking, v: u16) -> Judged
 }
 
 // What every curve says at v.
-pub fn judge_all(curves: [Curve; PLACES], braking: Braking, v: u16) -> [Judged; PLACES]
+pub fn judge_all(curves: [Curve; CURVES], braking: Braking, v: u16) -> [Judged; CURVES]
     ensures { λ r. ⌜ r ≡ judgedAll braking v curves ⌝ }
 {
     let none = none_judged();
-    let mut judged = [none; PLACES];
-    for i in 0..PLACES {
+    let mut judged = [none; CURVES];
+    for i in 0..CURVES {
         let curve = curves[i];
         judged[i] = judge_here(curve, braking, v);
     }
@@ -75,7 +78,7 @@ pub fn judge_all(curves: [Curve; PLACES], braking: Braking, v: u16) -> [Judged; 
 }
 
 // Every curve with its past in B noted; a place that holds none is judged A, which notes nothing.
-pub fn note_all(curves: [Curve; PLACES], judged: [Judged; PLACES]) -> [Curve; PLACES]
+pub fn note_all(curves: [Curve; PLACES], judged: [Judged; CURVES]) -> [Curve; PLACES]
     ensures { λ r. ⌜ r ≡ notedAll curves judged ⌝ }
 {
     let mut next = curves;
@@ -101,11 +104,11 @@ fn permitted_here(j: Judged) -> u16
 }
 
 // The least of the curves' permitted speeds, and 300 where there is none.
-pub fn least_permitted(judged: [Judged; PLACES]) -> u16
+pub fn least_permitted(judged: [Judged; CURVES]) -> u16
     ensures { λ r. ⌜ r ≡ leastPermitted judged ⌝ }
 {
     let mut least = TOP;
-    for i in 0..PLACES {
+    for i in 0..CURVES {
         least = lower(least, permitted_here(judged[i]));
     }
     least
@@ -119,11 +122,11 @@ fn brakes_from(interval: Interval, j: Judged) -> bool
 }
 
 // Whether a curve brakes in this interval or a later one.
-pub fn any_brakes(interval: Interval, judged: [Judged; PLACES]) -> bool
+pub fn any_brakes(interval: Interval, judged: [Judged; CURVES]) -> bool
     ensures { λ r. ⌜ r ≡ anyBrakes interval judged ⌝ }
 {
     let mut any = false;
-    for i in 0..PLACES {
+    for i in 0..CURVES {
         any = any | brakes_from(interval, judged[i]);
     }
     any

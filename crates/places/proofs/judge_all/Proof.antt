@@ -6,7 +6,7 @@ use native.Mathlib.Omega.{arith}
 use lib.ListN.{length, take, drop, replicate, length-map}
 use borrow.Author.Needs.{needs}
 use Rattle.laws.proofs.Lists.{copy-past, map-step}
-use Rattle.places.specs.Places.{places, judgedHere, judgedAll}
+use Rattle.places.specs.Places.{mostCurves, judgedHere, judgedAll}
 use Rattle.curve.specs.declared.Judged.{Judged}
 use Rattle.places.proofs.Loops.{noCurve}
 use Rattle.places.proofs.judge_all.Statement.{statement}
@@ -14,14 +14,14 @@ use Rattle.places.proofs.judge_all.Tie as tie
 
 -- the array before the loop
 abbrev start : Judged → List Judged
-start none = replicate places none
+start none = replicate mostCurves none
 
 abbrev Inv-loop : tie.InvT-loop
 Inv-loop braking v curves judged₀ i₀ judged i =
-    (i ≤ places) × (length curves ≡ places) × (length judged₀ ≡ places) × (judged ≡ take i (judgedAll braking v curves) ++ drop i judged₀)
+    (i ≤ mostCurves) × (length curves ≡ mostCurves) × (length judged₀ ≡ mostCurves) × (judged ≡ take i (judgedAll braking v curves) ++ drop i judged₀)
 
 abbrev μ-loop : tie.MeasureT-loop
-μ-loop braking v curves judged₀ i₀ judged i = places - i
+μ-loop braking v curves judged₀ i₀ judged i = mostCurves - i
 
 none-judged-requires : tie.Need-none-judged-requires Inv-loop μ-loop
 none-judged-requires c κs = tt

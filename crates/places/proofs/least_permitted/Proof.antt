@@ -4,17 +4,17 @@ use mathlib.Core.Path.{_≡_, _∙_}
 use native.Mathlib.Omega.{arith}
 use lib.ListN.{length, drop}
 use borrow.Author.Needs.{needs}
-use Rattle.places.specs.Places.{places, leastPermitted}
+use Rattle.places.specs.Places.{mostCurves, leastPermitted}
 use Rattle.places.proofs.Loops.{least-start, least-step, least-end}
 use Rattle.places.proofs.least_permitted.Statement.{statement}
 use Rattle.places.proofs.least_permitted.Tie as tie
 
 abbrev Inv-loop : tie.InvT-loop
 Inv-loop judged least₀ i₀ least i =
-    (i ≤ places) × (length judged ≡ places) × (least ≤ 300) × (min least (leastPermitted (drop i judged)) ≡ leastPermitted judged)
+    (i ≤ mostCurves) × (length judged ≡ mostCurves) × (least ≤ 300) × (min least (leastPermitted (drop i judged)) ≡ leastPermitted judged)
 
 abbrev μ-loop : tie.MeasureT-loop
-μ-loop judged least₀ i₀ least i = places - i
+μ-loop judged least₀ i₀ least i = mostCurves - i
 
 loop-holds : tie.Need-loop-holds Inv-loop μ-loop
 loop-holds c = (omega arith, search needs, omega arith, least-start (c .args .t1))

@@ -7,14 +7,14 @@ use lib.ListN.{length, take, drop}
 use borrow.Author.Needs.{needs}
 use Rattle.laws.proofs.Lists.{copy-past, zip-step, length-zip}
 use Rattle.interval.specs.Judging.{notedAt}
-use Rattle.places.specs.Places.{places, notedAll}
+use Rattle.places.specs.Places.{places, mostCurves, notedAll}
 use Rattle.places.proofs.Loops.{noCurve, zeroJudged}
 use Rattle.places.proofs.note_all.Statement.{statement}
 use Rattle.places.proofs.note_all.Tie as tie
 
 abbrev Inv-loop : tie.InvT-loop
 Inv-loop curves judged next₀ i₀ next i =
-    (i ≤ places) × (length curves ≡ places) × (length judged ≡ places) × (next ≡ take i (notedAll curves judged) ++ drop i curves)
+    (i ≤ places) × (length curves ≡ places) × (length judged ≡ mostCurves) × (next ≡ take i (notedAll curves judged) ++ drop i curves)
 
 abbrev μ-loop : tie.MeasureT-loop
 μ-loop curves judged next₀ i₀ next i = places - i
