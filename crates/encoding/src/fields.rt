@@ -1,6 +1,7 @@
 // The operands of the commands and their ranges. Each is read at its place after the code and the number.
 ghost use mathlib.Core.Path.{_≡_};
-ghost use Rattle.rules.specs.Operands.{bitOf, within, feedOf, extraOf, trainOf, trainInRange, startInRange, readingOf, odometerInRange, kindOf, speedInRange, gradientOf, curveOf, curveInRange, newCurveInRange, sectionOf, sectionInRange, eventIn, eventSpeed, eventSpeedInRange, eventInRange, inRange};
+ghost use Rattle.rules.specs.Operands.{bitOf, within, feedOf, extraOf, trainOf, trainInRange, startInRange, readingOf, odometerInRange, kindOf, speedInRange, gradientOf, curveFrom, curveOf, curveInRange, newCurveInRange, sectionOf, sectionInRange, eventIn, eventSpeed, eventSpeedInRange, eventInRange, recordOf, newRecordInRange, signalIn, routeIn, signalInRange, inRange};
+ghost use Rattle.records.specs.Numbers.{categoryOf, signalOf, routeOf};
 use areas::Event;
 use areas::event_of;
 use areas::is_event;
@@ -9,6 +10,11 @@ use curve::Gradient;
 use curve::Kind;
 use curve::Times;
 use pressure::Feed;
+use records::Category;
+use records::Condition;
+use records::EtRecord;
+use records::Route;
+use records::Signal;
 use rules::Code;
 use rules::Reading;
 use rules::Section;
@@ -147,19 +153,25 @@ fn gradient_of(byte: u8) -> Gradient
     curve::gradient_from(wire::signed8(byte))
 }
 
-// The curve, its distance in cm.
-pub fn curve_of(s: &[u8]) -> Curve
-    ensures { λ r. ⌜ r ≡ curveOf (now (s .entry)) ⌝ }
+// The curve of a kind, its distance in cm.
+fn curve_from(kind: Kind, s: &[u8]) -> Curve
+    ensures { λ r. ⌜ r ≡ curveFrom kind (now (s .entry)) ⌝ }
 {
     Curve {
         held: true,
         id: byte_at(s, 0),
-        kind: kind_of(byte_at(s, 1)),
+        kind,
         distance: 100 * be16(s, 2) as u32,
         speed: be16(s, 4),
         gradient: gradient_of(byte_at(s, 6)),
         past: false,
     }
+}
+
+pub fn curve_of(s: &[u8]) -> Curve
+    ensures { λ r. ⌜ r ≡ curveOf (now (s .entry)) ⌝ }
+{
+    curve_from(kind_of(byte_at(s, 1)), s)
 }
 
 fn curve_in_range(curve: Curve) -> bool
@@ -230,6 +242,77 @@ fn event_in_range(s: &[u8]) -> bool
     (byte_at(s, 0) <= 6) & event_speed_in_range(event_in(s), event_speed(s))
 }
 
+// ---- 51 ET record, 52 signal passed
+
+// The category of a byte from 0 to 3.
+fn category_of(byte: u8) -> Category
+    ensures { λ r. ⌜ r ≡ categoryOf byte ⌝ }
+{
+    match byte {
+        0 => Category::RF,
+        1 => Category::RH,
+        2 => Category::GF,
+        _ => Category::GH,
+    }
+}
+
+// A new record, undecided.
+pub fn record_of(s: &[u8]) -> EtRecord
+    ensures { λ r. ⌜ r ≡ recordOf (now (s .entry)) ⌝ }
+{
+    EtRecord {
+        curve: curve_from(Kind::SpeedTarget, s),
+        category: category_of(byte_at(s, 1)),
+        condition: Condition::Undecided(0),
+    }
+}
+
+fn new_record_in_range(s: &[u8]) -> bool
+    ensures { λ r. ⌜ r ≡ newRecordInRange (now (s .entry)) ⌝ }
+{
+    let et = record_of(s);
+    let curve = et.curve;
+    (byte_at(s, 1) <= 3) & curve_in_range(curve)
+}
+
+fn signal_of(byte: u8) -> Signal
+    ensures { λ r. ⌜ r ≡ signalOf byte ⌝ }
+{
+    if byte == 0 {
+        Signal::Main
+    } else {
+        Signal::Distant
+    }
+}
+
+pub fn signal_in(s: &[u8]) -> Signal
+    ensures { λ r. ⌜ r ≡ signalIn (now (s .entry)) ⌝ }
+{
+    signal_of(byte_at(s, 0))
+}
+
+fn route_of(byte: u8) -> Route
+    ensures { λ r. ⌜ r ≡ routeOf byte ⌝ }
+{
+    if byte == 0 {
+        Route::Straight
+    } else {
+        Route::Diverging
+    }
+}
+
+pub fn route_in(s: &[u8]) -> Route
+    ensures { λ r. ⌜ r ≡ routeIn (now (s .entry)) ⌝ }
+{
+    route_of(byte_at(s, 1))
+}
+
+fn signal_in_range(s: &[u8]) -> bool
+    ensures { λ r. ⌜ r ≡ signalInRange (now (s .entry)) ⌝ }
+{
+    (byte_at(s, 0) <= 1) & (byte_at(s, 1) <= 1)
+}
+
 // ---- all commands
 
 // Whether every operand is in its range.
@@ -249,5 +332,8 @@ pub fn in_range(code: Code, s: &[u8]) -> bool
         Code::BaliseError => true,
         Code::TestBrakes => true,
         Code::AreaEvent => event_in_range(s),
+        Code::NewRecord => new_record_in_range(s),
+        Code::SignalPassed => signal_in_range(s),
+        Code::EndRecord => byte_at(s, 0) <= 254,
     }
 }

@@ -29,6 +29,8 @@ pub fn answer_number(answer: Answer) -> u8
         Answer::OutsideDE => 14,
         Answer::TestRunning => 15,
         Answer::NotTaken => 16,
+        Answer::NoRecordPlace => 17,
+        Answer::NotSuperseded => 18,
     }
 }
 
@@ -61,6 +63,9 @@ pub fn code_number(code: Code) -> u8
         Code::BaliseError => 0x32,
         Code::TestBrakes => 0x40,
         Code::AreaEvent => 0x50,
+        Code::NewRecord => 0x51,
+        Code::SignalPassed => 0x52,
+        Code::EndRecord => 0x53,
     }
 }
 
@@ -80,7 +85,10 @@ pub fn code_of(byte: u8) -> Code
         0x31 => Code::Proceed,
         0x32 => Code::BaliseError,
         0x40 => Code::TestBrakes,
-        _ => Code::AreaEvent,
+        0x50 => Code::AreaEvent,
+        0x51 => Code::NewRecord,
+        0x52 => Code::SignalPassed,
+        _ => Code::EndRecord,
     }
 }
 

@@ -69,6 +69,24 @@ enum-told-12 c = search needs
 event-in-range-requires : tie.Need-event-in-range-requires
 event-in-range-requires c κs = tt
 
+enum-told-13 : tie.Need-enum-told-13
+enum-told-13 c = search needs
+
+new-record-in-range-requires : tie.Need-new-record-in-range-requires
+new-record-in-range-requires c κs = tt
+
+enum-told-14 : tie.Need-enum-told-14
+enum-told-14 c = search needs
+
+signal-in-range-requires : tie.Need-signal-in-range-requires
+signal-in-range-requires c κs = tt
+
+enum-told-15 : tie.Need-enum-told-15
+enum-told-15 c = search needs
+
+byte-at-requires-5 : tie.Need-byte-at-requires-5
+byte-at-requires-5 c κs = tt
+
 returns : tie.Need-returns
 returns c = rw (c .start-in-range .ensures, c .before .enum-told .given .1)
 
@@ -105,6 +123,15 @@ returns-11 c = search needs
 returns-12 : tie.Need-returns-12
 returns-12 c = rw (c .event-in-range .ensures, c .before .enum-told12 .given .1)
 
+returns-13 : tie.Need-returns-13
+returns-13 c = rw (c .new-record-in-range .ensures, c .before .enum-told13 .given .1)
+
+returns-14 : tie.Need-returns-14
+returns-14 c = rw (c .signal-in-range .ensures, c .before .enum-told14 .given .1)
+
+returns-15 : tie.Need-returns-15
+returns-15 c = rw (c .byte-at5 .ensures, c .before .enum-told15 .given .1)
+
 pub in-range-spec : {M : Type 1} → statement M
 in-range-spec =
     tie.close
@@ -131,6 +158,12 @@ in-range-spec =
     enum-told-11
     enum-told-12
     event-in-range-requires
+    enum-told-13
+    new-record-in-range-requires
+    enum-told-14
+    signal-in-range-requires
+    enum-told-15
+    byte-at-requires-5
     returns
     returns-2
     returns-3
@@ -142,4 +175,7 @@ in-range-spec =
     returns-9
     returns-10
     returns-11
-    returns-12)
+    returns-12
+    returns-13
+    returns-14
+    returns-15)
