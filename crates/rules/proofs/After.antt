@@ -205,6 +205,9 @@ train-kept Code.Proceed s stm e = refl
 train-kept Code.BaliseError s stm e = refl
 train-kept Code.TestBrakes s stm e = refl
 train-kept Code.AreaEvent s stm e = refl
+train-kept Code.NewRecord s stm e = refl
+train-kept Code.SignalPassed s stm e = refl
+train-kept Code.EndRecord s stm e = refl
 
 -- the test and the extra after a command
 abbrev pub testBy : Code → List ℕ → Stm → BrakeTest
@@ -220,6 +223,9 @@ testBy Code.Proceed s stm = stm .test
 testBy Code.BaliseError s stm = stm .test
 testBy Code.TestBrakes s stm = begunTest (stm .test)
 testBy Code.AreaEvent s stm = stm .test
+testBy Code.NewRecord s stm = stm .test
+testBy Code.SignalPassed s stm = stm .test
+testBy Code.EndRecord s stm = stm .test
 
 pub test-by : (code : Code) (s : List ℕ) (stm : Stm) → carriedOut code s stm .test ≡ testBy code s stm
 unfolding freshWith stopped
@@ -235,6 +241,9 @@ test-by Code.Proceed s stm = refl
 test-by Code.BaliseError s stm = refl
 test-by Code.TestBrakes s stm = refl
 test-by Code.AreaEvent s stm = refl
+test-by Code.NewRecord s stm = refl
+test-by Code.SignalPassed s stm = refl
+test-by Code.EndRecord s stm = refl
 
 abbrev pub extraBy : Code → List ℕ → Stm → ℕ
 extraBy Code.Start s stm = trainOf s .times .extra
@@ -249,6 +258,9 @@ extraBy Code.Proceed s stm = stm .train .times .extra
 extraBy Code.BaliseError s stm = stm .train .times .extra
 extraBy Code.TestBrakes s stm = stm .train .times .extra
 extraBy Code.AreaEvent s stm = stm .train .times .extra
+extraBy Code.NewRecord s stm = stm .train .times .extra
+extraBy Code.SignalPassed s stm = stm .train .times .extra
+extraBy Code.EndRecord s stm = stm .train .times .extra
 
 pub extra-by : (code : Code) (s : List ℕ) (stm : Stm) → carriedOut code s stm .train .times .extra ≡ extraBy code s stm
 unfolding freshWith stopped
@@ -271,6 +283,9 @@ extra-by Code.Proceed s stm = refl
 extra-by Code.BaliseError s stm = refl
 extra-by Code.TestBrakes s stm = refl
 extra-by Code.AreaEvent s stm = refl
+extra-by Code.NewRecord s stm = refl
+extra-by Code.SignalPassed s stm = refl
+extra-by Code.EndRecord s stm = refl
 
 -- entering a state other than CS leaves the track
 pub track-entered : (state : State) (stm : Stm) → isState State.CS state ≡ false → entered state stm .track ≡ stm .track

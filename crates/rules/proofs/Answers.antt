@@ -12,7 +12,7 @@ use Rattle.pressure.specs.Phases.{isSet}
 use Rattle.rules.specs.Numbers.{codeOf, isState, isAccepted}
 use Rattle.rules.specs.Operands.{codeByte, numberOf, inRange}
 use Rattle.rules.specs.Commands.{acceptedOf}
-use Rattle.rules.specs.Refusals.{isStart, isRepeat, isNext, isAllowed, ordersDA, endsNothing, findsNoPlace, testsOutside, testsTwice, isUntaken, firstOf, rulesFor, wholeAnswer, answerFor, answerOf}
+use Rattle.rules.specs.Refusals.{isStart, isRepeat, isNext, isAllowed, ordersDA, endsNothing, findsNoPlace, testsOutside, testsTwice, isUntaken, findsNoRecordPlace, repeatsNothing, firstOf, rulesFor, wholeAnswer, answerFor, answerOf}
 use Rattle.rules.specs.Calls.{callOf}
 use Rattle.rules.specs.Runs.{Sent, answerTo, stateAfter}
 use Rattle.rules.specs.declared.Answer.{Answer}
@@ -20,7 +20,7 @@ use Rattle.rules.specs.declared.State.{State}
 use Rattle.rules.specs.declared.Stm.{Stm}
 use Rattle.rules.proofs.Tests.{impossible}
 
--- what the list 5 to 16 lets pass
+-- what the list 5 to 18 lets pass
 pub record Passed (stm : Stm) (command : List ℕ) : Type 0 where
   pub started : (stm .control .started || isStart command) ≡ true
   pub number : eqb (numberOf command) 0 ≡ false
@@ -35,33 +35,37 @@ pub record Passed (stm : Stm) (command : List ℕ) : Type 0 where
   pub inDE : testsOutside stm (codeOf (codeByte command)) ≡ false
   pub idle : testsTwice stm (codeOf (codeByte command)) ≡ false
   pub taken : isUntaken stm (codeOf (codeByte command)) (operandsOf command) ≡ false
+  pub recordPlace : findsNoRecordPlace stm (codeOf (codeByte command)) (operandsOf command) ≡ false
+  pub superseded : repeatsNothing stm (codeOf (codeByte command)) (operandsOf command) ≡ false
 
 -- the list over its tests: the first that applies, by the answers' acceptance
-abbrev listed : Bool → Bool → Bool → Bool → Bool → Bool → Bool → Bool → Bool → Bool → Bool → Bool → Bool → Answer
-listed t5 t6 t7 t8 again t9 t10 t11 t12 t13 t14 t15 t16 =
+abbrev listed : Bool → Bool → Bool → Bool → Bool → Bool → Bool → Bool → Bool → Bool → Bool → Bool → Bool → Bool → Bool → Answer
+listed t5 t6 t7 t8 again t9 t10 t11 t12 t13 t14 t15 t16 t17 t18 =
     cond t5 Answer.NotStarted (cond t6 Answer.ZeroNumber (cond t7 Answer.WrongNumber (cond t8 Answer.Failed (cond again Answer.Again
     (cond t9 Answer.OutOfRange (cond t10 Answer.NotAllowed (cond t11 Answer.NoReference (cond t12 Answer.NotHeld
     (cond t13 Answer.AllHeld (cond t14 Answer.OutsideDE (cond t15 Answer.TestRunning
-    (cond t16 Answer.NotTaken Answer.Accepted))))))))))))
+    (cond t16 Answer.NotTaken (cond t17 Answer.NoRecordPlace (cond t18 Answer.NotSuperseded Answer.Accepted))))))))))))))
 
-all-pass : (t5 t6 t7 t8 again t9 t10 t11 t12 t13 t14 t15 t16 : Bool) → isAccepted (listed t5 t6 t7 t8 again t9 t10 t11 t12 t13 t14 t15 t16) ≡ true
+all-pass : (t5 t6 t7 t8 again t9 t10 t11 t12 t13 t14 t15 t16 t17 t18 : Bool) → isAccepted (listed t5 t6 t7 t8 again t9 t10 t11 t12 t13 t14 t15 t16 t17 t18) ≡ true
     → (t5 ≡ false) × (t6 ≡ false) × (t7 ≡ false) × (t8 ≡ false) × (again ≡ false) × (t9 ≡ false) × (t10 ≡ false) × (t11 ≡ false)
-    × (t12 ≡ false) × (t13 ≡ false) × (t14 ≡ false) × (t15 ≡ false) × (t16 ≡ false)
-all-pass true t6 t7 t8 again t9 t10 t11 t12 t13 t14 t15 t16 e = impossible e
-all-pass false true t7 t8 again t9 t10 t11 t12 t13 t14 t15 t16 e = impossible e
-all-pass false false true t8 again t9 t10 t11 t12 t13 t14 t15 t16 e = impossible e
-all-pass false false false true again t9 t10 t11 t12 t13 t14 t15 t16 e = impossible e
-all-pass false false false false true t9 t10 t11 t12 t13 t14 t15 t16 e = impossible e
-all-pass false false false false false true t10 t11 t12 t13 t14 t15 t16 e = impossible e
-all-pass false false false false false false true t11 t12 t13 t14 t15 t16 e = impossible e
-all-pass false false false false false false false true t12 t13 t14 t15 t16 e = impossible e
-all-pass false false false false false false false false true t13 t14 t15 t16 e = impossible e
-all-pass false false false false false false false false false true t14 t15 t16 e = impossible e
-all-pass false false false false false false false false false false true t15 t16 e = impossible e
-all-pass false false false false false false false false false false false true t16 e = impossible e
-all-pass false false false false false false false false false false false false true e = impossible e
-all-pass false false false false false false false false false false false false false e =
-    (refl, refl, refl, refl, refl, refl, refl, refl, refl, refl, refl, refl, refl)
+    × (t12 ≡ false) × (t13 ≡ false) × (t14 ≡ false) × (t15 ≡ false) × (t16 ≡ false) × (t17 ≡ false) × (t18 ≡ false)
+all-pass true t6 t7 t8 again t9 t10 t11 t12 t13 t14 t15 t16 t17 t18 e = impossible e
+all-pass false true t7 t8 again t9 t10 t11 t12 t13 t14 t15 t16 t17 t18 e = impossible e
+all-pass false false true t8 again t9 t10 t11 t12 t13 t14 t15 t16 t17 t18 e = impossible e
+all-pass false false false true again t9 t10 t11 t12 t13 t14 t15 t16 t17 t18 e = impossible e
+all-pass false false false false true t9 t10 t11 t12 t13 t14 t15 t16 t17 t18 e = impossible e
+all-pass false false false false false true t10 t11 t12 t13 t14 t15 t16 t17 t18 e = impossible e
+all-pass false false false false false false true t11 t12 t13 t14 t15 t16 t17 t18 e = impossible e
+all-pass false false false false false false false true t12 t13 t14 t15 t16 t17 t18 e = impossible e
+all-pass false false false false false false false false true t13 t14 t15 t16 t17 t18 e = impossible e
+all-pass false false false false false false false false false true t14 t15 t16 t17 t18 e = impossible e
+all-pass false false false false false false false false false false true t15 t16 t17 t18 e = impossible e
+all-pass false false false false false false false false false false false true t16 t17 t18 e = impossible e
+all-pass false false false false false false false false false false false false true t17 t18 e = impossible e
+all-pass false false false false false false false false false false false false false true t18 e = impossible e
+all-pass false false false false false false false false false false false false false false true e = impossible e
+all-pass false false false false false false false false false false false false false false false e =
+    (refl, refl, refl, refl, refl, refl, refl, refl, refl, refl, refl, refl, refl, refl, refl)
 
 -- the tests, read the other way round
 neither : (a b : Bool) → (not a && not b) ≡ false → (a || b) ≡ true
@@ -96,7 +100,8 @@ passed-of stm command e =
     let t = all-pass (not started && not start) (eqb (numberOf command) 0) (not start && not repeat && not next)
     (failed && not start && not repeat) repeat (not (inRange code s)) (not (isAllowed (stm .control .state) code s))
     (ordersDA code s && not (isSet (stm .feedback .phase))) (endsNothing stm code s) (findsNoPlace stm code s)
-    (testsOutside stm code) (testsTwice stm code) (isUntaken stm code s) e in
+    (testsOutside stm code) (testsTwice stm code) (isUntaken stm code s)
+    (findsNoRecordPlace stm code s) (repeatsNothing stm code s) e in
     record {
       started = neither started start (t .0);
       number = t .1;
@@ -111,6 +116,8 @@ passed-of stm command e =
       inDE = t .10;
       idle = t .11;
       taken = t .12;
+      recordPlace = t .13;
+      superseded = t .14;
     }
 
 by-form : (form : Form) (stm : Stm) (command : List ℕ) → isAccepted (answerFor form (wholeAnswer stm command)) ≡ true
@@ -121,7 +128,7 @@ by-form Form.NoCode stm command e = impossible e
 by-form Form.WrongLength stm command e = impossible e
 by-form Form.Whole stm command e = (refl, passed-of stm command e)
 
--- an accepted command has passed 1 to 4, and 5 to 16
+-- an accepted command has passed 1 to 4, and 5 to 18
 pub accepted-passed : (stm : Stm) (command : List ℕ) (area : ℕ) → isAccepted (answerOf stm command area) ≡ true
     → (formOf command area ≡ Form.Whole) × Passed stm command
 unfolding answerOf

@@ -32,7 +32,7 @@ use Rattle.rules.specs.Places.{freeSection, noSections, passedTrack}
 use Rattle.places.specs.Places.{places}
 use Rattle.rules.specs.Reports.{reportOutside, reportFor, reportOf}
 use Rattle.rules.specs.Commands.{carriedOut}
-use Rattle.rules.specs.Refusals.{isStart, isRepeat, isNext, endsNothing, findsNoPlace, testsOutside, testsTwice, isUntaken, firstOf, rulesFor, wholeAnswer, answerFor, answerOf}
+use Rattle.rules.specs.Refusals.{isStart, isRepeat, isNext, endsNothing, findsNoPlace, testsOutside, testsTwice, isUntaken, findsNoRecordPlace, repeatsNothing, firstOf, rulesFor, wholeAnswer, answerFor, answerOf}
 use Rattle.rules.specs.Calls.{callOf}
 use Rattle.rules.specs.Runs.{Sent, answerTo, stateAfter, stateAtEnd, noneAccepted, isOf, freshens}
 use Rattle.rules.specs.History.{firstOperand, movedOf, isIn, isMoving, areaIs, passesEvent, eventSpeedOf, entersByGmd, collected, groundOver}
@@ -119,7 +119,7 @@ given-counts true allowed taken taken′ h = ap (numbered true allowed) (h refl)
 given-counts false allowed taken taken′ h = refl
 
 answered-whole : (stm : Stm) (command : List ℕ) → AnsweredAs stm command Code.AreaEvent
-unfolding rulesFor endsNothing findsNoPlace testsOutside testsTwice isUntaken
+unfolding rulesFor endsNothing findsNoPlace testsOutside testsTwice isUntaken findsNoRecordPlace repeatsNothing
 answered-whole stm command e =
     let s = operandsOf command in
     let byte = firstOperand command in
@@ -243,6 +243,7 @@ module _ (stm : Stm) (x : Sent) (e : isAccepted (answerTo stm x) ≡ true) (o : 
     deletes = λ t place. ap (λ sections. getD sections place freeSection .held) sections-is ∙ deleted (entersByGmd stm (x .command)) stm place t;
     leaves = λ t. sections-is ∙ ap (λ d. cond d noSections (stm .track .sections)) t;
     curves = ap (λ track. track .curves) track-is;
+    records = ap (λ track. track .records) track-is;
     forty = ap (λ track. track .forty) track-is;
     control = part (λ s. s .control) (control-after stm x e);
     train = part (λ s. s .train) (train-after stm x e);
@@ -369,6 +370,9 @@ module _ (stm : Stm) (x : Sent) (e : isAccepted (answerTo stm x) ≡ true) where
   changed-by Code.BaliseError c n = absurd (n (area-after Code.BaliseError c))
   changed-by Code.TestBrakes c n = absurd (n (area-after Code.TestBrakes c))
   changed-by Code.AreaEvent c n = inr (inl (by-event (ap (isCode Code.AreaEvent) c) n))
+  changed-by Code.NewRecord c n = absurd (n (area-after Code.NewRecord c))
+  changed-by Code.SignalPassed c n = absurd (n (area-after Code.SignalPassed c))
+  changed-by Code.EndRecord c n = absurd (n (area-after Code.EndRecord c))
 
 pub area-changes-by : AreaChangesBy
 area-changes-by stm x e n = changed-by stm x e (codeOf (codeByte (x .command))) refl n
@@ -389,6 +393,9 @@ still-by Code.Proceed s stm n p = refl
 still-by Code.BaliseError s stm n p = refl
 still-by Code.TestBrakes s stm n p = refl
 still-by Code.AreaEvent s stm n p = impossible (sym n)
+still-by Code.NewRecord s stm n p = refl
+still-by Code.SignalPassed s stm n p = refl
+still-by Code.EndRecord s stm n p = refl
 
 abbrev movesArea : Stm → List ℕ → Bool
 movesArea before command = isOf Code.Start command || isOf Code.AreaEvent command
@@ -466,6 +473,9 @@ module _ (stm : Stm) (x : Sent) (e : isAccepted (answerTo stm x) ≡ true) (n : 
   pending-by Code.TestBrakes c ground p = stay-after stm x Code.TestBrakes e c
   pending-by Code.AreaEvent c ground p =
       let o = ap (isCode Code.AreaEvent) c in event-is-done stm x e o .again (only-group o) ground p
+  pending-by Code.NewRecord c ground p = stay-after stm x Code.NewRecord e c
+  pending-by Code.SignalPassed c ground p = stay-after stm x Code.SignalPassed e c
+  pending-by Code.EndRecord c ground p = stay-after stm x Code.EndRecord e c
 
 -- one command, accepted or not
 one-pending : (stm : Stm) (x : Sent) (accepted : Bool) → isAccepted (answerTo stm x) ≡ accepted

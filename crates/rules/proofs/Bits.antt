@@ -1,6 +1,6 @@
 -- The causes, the messages and the offer as numbers: every set of causes and every message is tried.
 use mathlib.Core.Path.{_≡_, refl, sym}
-use Prim.Native.Nat.{ℕ, zero, suc, _+_, _%_, _<_, _≤_}
+use Prim.Native.Nat.{ℕ, zero, suc, _+_, _/_, _%_, _<_, _≤_}
 use native.Mathlib.Nat.{suc-inj, suc-ne-zero}
 use mathlib.Core.Bool.{Bool, true, false, not, _&&_}
 use mathlib.Core.List.{List, [], _∷_}
@@ -125,55 +125,62 @@ module _ (c : Causes) where
 
 -- ---- messages, and the offer
 
--- six bits, and two
-abbrev six : List Bool → ℕ
-six bits =
+-- seven bits, and two
+abbrev seven : List Bool → ℕ
+seven bits =
     bitValue (getD bits 0 false) 0
     + bitValue (getD bits 1 false) 1
     + bitValue (getD bits 2 false) 2
     + bitValue (getD bits 3 false) 3
     + bitValue (getD bits 4 false) 4
     + bitValue (getD bits 5 false) 5
+    + bitValue (getD bits 6 false) 6
 
-abbrev isSix : List Bool → Bool
-isSix bits =
-    same (bitOf 0 (six bits)) (getD bits 0 false)
-    && same (bitOf 1 (six bits)) (getD bits 1 false)
-    && same (bitOf 2 (six bits)) (getD bits 2 false)
-    && same (bitOf 3 (six bits)) (getD bits 3 false)
-    && same (bitOf 4 (six bits)) (getD bits 4 false)
-    && same (bitOf 5 (six bits)) (getD bits 5 false)
-    && ltb (six bits) 64
-    && eqb (six bits % 8) (bitValue (getD bits 0 false) 0 + bitValue (getD bits 1 false) 1 + bitValue (getD bits 2 false) 2)
+abbrev isSeven : List Bool → Bool
+isSeven bits =
+    same (bitOf 0 (seven bits)) (getD bits 0 false)
+    && same (bitOf 1 (seven bits)) (getD bits 1 false)
+    && same (bitOf 2 (seven bits)) (getD bits 2 false)
+    && same (bitOf 3 (seven bits)) (getD bits 3 false)
+    && same (bitOf 4 (seven bits)) (getD bits 4 false)
+    && same (bitOf 5 (seven bits)) (getD bits 5 false)
+    && same (bitOf 6 (seven bits)) (getD bits 6 false)
+    && ltb (seven bits) 128
+    && eqb (seven bits % 8) (bitValue (getD bits 0 false) 0 + bitValue (getD bits 1 false) 1 + bitValue (getD bits 2 false) 2)
+    && eqb (seven bits / 64) (bitValue (getD bits 6 false) 0)
 
-all-six : tried 6 isSix ≡ true
-all-six = refl
+all-seven : tried 7 isSeven ≡ true
+all-seven = refl
 
-pub record SixBits (a b c d e f : Bool) (n : ℕ) : Type 0 where
+pub record SevenBits (a b c d e f g : Bool) (n : ℕ) : Type 0 where
   pub first : bitOf 0 n ≡ a
   pub second : bitOf 1 n ≡ b
   pub third : bitOf 2 n ≡ c
   pub fourth : bitOf 3 n ≡ d
   pub fifth : bitOf 4 n ≡ e
   pub sixth : bitOf 5 n ≡ f
-  pub most : n < 64
+  pub seventh : bitOf 6 n ≡ g
+  pub most : n < 128
   pub low : n % 8 ≡ bitValue a 0 + bitValue b 1 + bitValue c 2
+  pub high : n / 64 ≡ bitValue g 0
 
-pub six-bits : (a b c d e f : Bool)
-    → SixBits a b c d e f (bitValue a 0 + bitValue b 1 + bitValue c 2 + bitValue d 3 + bitValue e 4 + bitValue f 5)
-six-bits a b c d e f =
-    let bits = a ∷ b ∷ c ∷ d ∷ e ∷ f ∷ [] in
-    let n = six bits in
+pub seven-bits : (a b c d e f g : Bool)
+    → SevenBits a b c d e f g (bitValue a 0 + bitValue b 1 + bitValue c 2 + bitValue d 3 + bitValue e 4 + bitValue f 5 + bitValue g 6)
+seven-bits a b c d e f g =
+    let bits = a ∷ b ∷ c ∷ d ∷ e ∷ f ∷ g ∷ [] in
+    let n = seven bits in
     let rest : List Bool =
     same (bitOf 1 n) b
     ∷ same (bitOf 2 n) c
     ∷ same (bitOf 3 n) d
     ∷ same (bitOf 4 n) e
     ∷ same (bitOf 5 n) f
-    ∷ ltb n 64
+    ∷ same (bitOf 6 n) g
+    ∷ ltb n 128
     ∷ eqb (n % 8) (bitValue a 0 + bitValue b 1 + bitValue c 2)
+    ∷ eqb (n / 64) (bitValue g 0)
     ∷ [] in
-    let holds = passes 6 isSix all-six bits refl in
+    let holds = passes 7 isSeven all-seven bits refl in
     let t = joined-each (same (bitOf 0 n) a) rest holds in
     record {
       first = same-is (bitOf 0 n) a (joined-first (same (bitOf 0 n) a) rest holds);
@@ -182,8 +189,10 @@ six-bits a b c d e f =
       fourth = same-is (bitOf 3 n) d (t 2);
       fifth = same-is (bitOf 4 n) e (t 3);
       sixth = same-is (bitOf 5 n) f (t 4);
-      most = ltb-true n 64 (t 5);
-      low = eqb-true (n % 8) (bitValue a 0 + bitValue b 1 + bitValue c 2) (t 6);
+      seventh = same-is (bitOf 6 n) g (t 5);
+      most = ltb-true n 128 (t 6);
+      low = eqb-true (n % 8) (bitValue a 0 + bitValue b 1 + bitValue c 2) (t 7);
+      high = eqb-true (n / 64) (bitValue g 0) (t 8);
     }
 
 pub two-bits : (a b : Bool) → let n = bitValue a 0 + bitValue b 1 in (bitOf 0 n ≡ a) × (bitOf 1 n ≡ b) × (n ≤ 3)

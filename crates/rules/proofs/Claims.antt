@@ -3,7 +3,7 @@ use mathlib.Core.Path.{_≡_, refl, sym, _∙_, ap}
 use Prim.Native.Nat.{ℕ, zero, suc, _+_, _*_, _≤_, _<_, min}
 use mathlib.Core.Bool.{Bool, true, false, cond, not, _&&_, _||_, false≢true, or-false, and-false}
 use mathlib.Core.Logic.{_⊎_, inl, inr}
-use mathlib.Core.List.{List, [], _∷_, map, foldr, zipWith, List·Memᴰ·head, List·Memᴰ·tail, List·Memᴰ·not-nil}
+use mathlib.Core.List.{List, [], _∷_, map, foldr, List·Memᴰ·head, List·Memᴰ·tail, List·Memᴰ·not-nil}
 use native.Mathlib.Omega.{arith}
 use native.Mathlib.Numerals.{add-one}
 use native.Mathlib.Nat.{min-le-right, le-of-eq, le-of-lt, min-le-left, le-min}
@@ -29,7 +29,7 @@ use Rattle.rules.specs.Numbers.{answerNumber, codeOf}
 use Rattle.rules.specs.Operands.{codeByte}
 use Rattle.rules.specs.Places.{anyOf, allOf, freeSection, endingSection, movedSection, allCurvesHeld, allSectionsHeld, holdsCurve, holdsSection}
 use Rattle.rules.specs.Speeds.{sectionSpeed, stopSpeed, vmaxOf, permittedSpeed}
-use Rattle.rules.specs.Shows.{candidate, noCandidate, isLower, goesBefore, chosenOf, chosenFrom, chosen}
+use Rattle.rules.specs.Shows.{noCandidate, setNumber, isLower, goesBefore, chosenOf, chosenFrom, candidates, chosen}
 use Rattle.rules.specs.Refusals.{Rule, firstOf, rulesFor, findsNoPlace, wholeAnswer, answerFor, answerOf}
 use Rattle.rules.specs.Calls.{callOf}
 use Rattle.rules.specs.Runs.{Sent, answerTo}
@@ -276,18 +276,29 @@ less-one-way x y e = le-ltb y x (omega (arith, ltb-true x y e))
 not-less-on : (x y z : ℕ) → ltb x y ≡ false → ltb y z ≡ false → ltb x z ≡ false
 not-less-on x y z e f = le-ltb x z (omega (arith, ltb-false x y e, ltb-false y z f))
 
--- lower permitted speed, then lower id
+-- curves before records, then lower id
+abbrev placedBefore : Candidate → Candidate → Bool
+placedBefore x y = isLower (setNumber (x .et)) (setNumber (y .et)) (ltb (x .curve .id) (y .curve .id))
+
+placed-one-way : (x y : Candidate) → placedBefore x y ≡ true → placedBefore y x ≡ false
+placed-one-way x y = lower-one-way (setNumber (x .et)) (setNumber (y .et)) _ _ (less-one-way (x .curve .id) (y .curve .id))
+
+not-placed-on : (x y z : Candidate) → placedBefore x y ≡ false → placedBefore y z ≡ false → placedBefore x z ≡ false
+not-placed-on x y z =
+    not-lower-on (setNumber (x .et)) (setNumber (y .et)) (setNumber (z .et)) _ _ _
+    (not-less-on (x .curve .id) (y .curve .id) (z .curve .id))
+
+-- lower permitted speed, then these
 abbrev permitsLess : Candidate → Candidate → Bool
-permitsLess x y = isLower (x .judged .permitted) (y .judged .permitted) (ltb (x .curve .id) (y .curve .id))
+permitsLess x y = isLower (x .judged .permitted) (y .judged .permitted) (placedBefore x y)
 
 permits-one-way : (x y : Candidate) → permitsLess x y ≡ true → permitsLess y x ≡ false
 permits-one-way x y =
-    lower-one-way (x .judged .permitted) (y .judged .permitted) _ _ (less-one-way (x .curve .id) (y .curve .id))
+    lower-one-way (x .judged .permitted) (y .judged .permitted) _ _ (placed-one-way x y)
 
 not-permits-on : (x y z : Candidate) → permitsLess x y ≡ false → permitsLess y z ≡ false → permitsLess x z ≡ false
 not-permits-on x y z =
-    not-lower-on (x .judged .permitted) (y .judged .permitted) (z .judged .permitted) _ _ _
-    (not-less-on (x .curve .id) (y .curve .id) (z .curve .id))
+    not-lower-on (x .judged .permitted) (y .judged .permitted) (z .judged .permitted) _ _ _ (not-placed-on x y z)
 
 -- latest interval first: of two at most one goes before the other, none before itself, and "not before" is transitive
 before-one-way : (x y : Candidate) → goesBefore x y ≡ true → goesBefore y x ≡ false
@@ -305,7 +316,7 @@ not-before-on x y z e f =
     (λ yz xy. not-permits-on x y z xy yz) f e
 
 -- a candidate that is held, and before which this one does not go
-abbrev ShownOver : Candidate → Candidate → Type 0
+abbrev pub ShownOver : Candidate → Candidate → Type 0
 ShownOver c shown = (shown .judged .held ≡ true) × (goesBefore c shown ≡ false)
 
 shown-over-on : (x y z : Candidate) → ShownOver x y → ShownOver y z → ShownOver x z
@@ -335,7 +346,7 @@ module _ (best next : Candidate) where
   one-of-both false = inl refl
 
 -- the one of a list that is shown
-over-first : (best : Candidate) (xs : List Candidate) → best .judged .held ≡ true → ShownOver best (chosenFrom best xs)
+pub over-first : (best : Candidate) (xs : List Candidate) → best .judged .held ≡ true → ShownOver best (chosenFrom best xs)
 unfolding chosenFrom chosenOf
 over-first best [] h = (h, not-before-itself best)
 over-first best (next ∷ rest) h =
@@ -373,8 +384,8 @@ held-one xs h =
 
 pub shown-is-first : ShownIsFirst
 unfolding chosen
-shown-is-first curves judged c m h =
-    let xs = zipWith candidate curves judged in
+shown-is-first judge track c m h =
+    let xs = candidates judge track in
     let over = over-each noCandidate xs c m h in
     (over .0, held-one xs (over .0), over .1)
 

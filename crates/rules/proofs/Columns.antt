@@ -21,7 +21,7 @@ use Rattle.wire.specs.Numbers.{byteAt}
 use Rattle.wire.specs.Form.{operandsOf}
 use Rattle.rules.specs.Numbers.{bitNumber, isAccepted, codeOf}
 use Rattle.rules.specs.Operands.{codeByte}
-use Rattle.rules.specs.Places.{allOf}
+use Rattle.rules.specs.Places.{allOf, allCurves}
 use Rattle.rules.specs.Hold.{isUnheld}
 use Rattle.rules.specs.Speeds.{brakingOf, judgedNow}
 use Rattle.rules.specs.Table.{causes, stands, curveOrders, orderedAt, orderedBy, isSlow, releasableWhen, othersReleasable, isReleasable, addedCauses}
@@ -42,6 +42,7 @@ use Rattle.rules.proofs.Tests.{impossible, both, and-both, either, or-l
 use Rattle.rules.proofs.Claims.{all-holds}
 use Rattle.rules.proofs.Monotone.{any-in, any-from}
 use Rattle.rules.proofs.TwoSpeeds.{brakes, any-brakes-is}
+use Rattle.rules.proofs.Supervising.{among-all, from-all}
 use Rattle.rules.proofs.Ordering.{same-tests, stands-added, since-after, others-drop-nothing}
 use Rattle.rules.proofs.After.{train-measured, track-measured, feedback-measured, kept-measured}
 
@@ -120,20 +121,22 @@ module _ (stm : Stm) where
       )
 
   tells-brakes : (interval : Interval) → rankOf Interval.D ≤ rankOf interval
-      → Tells (anyBrakes interval (judgedNow (stm .train) (stm .kept) (stm .track .curves))) (BrakesFrom interval stm)
+      → Tells (anyBrakes interval (judgedNow (stm .train) (stm .kept) (allCurves (stm .track)))) (BrakesFrom interval stm)
   unfolding judgedNow
   tells-brakes interval from =
       let braking = brakingIn stm in
       let v = stm .kept .speed in
       let test = brakes interval braking v in
-      rw (braking-is, any-brakes-is interval braking v (stm .track .curves)) (
+      rw (braking-is, any-brakes-is interval braking v (allCurves (stm .track))) (
         λ e.
-            let (curve, place, t) = any-from test (stm .track .curves) e in
+            let (curve, place, t) = any-from test (allCurves (stm .track)) e in
             let told = brakes-told interval from curve .0 t in
-            record { curve = curve; holds = record { place = place; held = told .0 }; late = told .1; fast = told .2 },
+            let (et, supervises) = from-all (stm .track) curve (record { place = place; held = told .0 }) in
+            record { et = et; curve = curve; holds = supervises; late = told .1; fast = told .2 },
         λ b.
-            any-in test (stm .track .curves) (b .holds .place)
-            (brakes-told interval from (b .curve) .1 (b .holds .held, b .late, b .fast)),
+            let holds = among-all (stm .track) (b .et) (b .curve) (b .holds) in
+            any-in test (allCurves (stm .track)) (holds .place)
+            (brakes-told interval from (b .curve) .1 (holds .held, b .late, b .fast)),
       )
 
   tells-short : isInsufficient (stm .train) (stm .feedback) ≡ isShort stm
@@ -143,7 +146,7 @@ module _ (stm : Stm) where
   tells-curve : Tells (curveOrders (seenIn stm)) (CurveOrders stm)
   unfolding curveOrders seenIn seenOf seenWith
   tells-curve =
-      let judged = judgedNow (stm .train) (stm .kept) (stm .track .curves) in
+      let judged = judgedNow (stm .train) (stm .kept) (allCurves (stm .track)) in
       let short = isInsufficient (stm .train) (stm .feedback) in
       tells-or (anyBrakes Interval.D judged && short) (anyBrakes Interval.E judged)
       (tells-and (anyBrakes Interval.D judged) short (tells-brakes Interval.D (lit≤ tt)) (tells-by tells-short (tells-itself (isShort stm))))

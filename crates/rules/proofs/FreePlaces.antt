@@ -75,6 +75,9 @@ module _ (stm : Stm) (place : ℕ) (free : curveAt place stm .held ≡ false) wh
   command-free Code.BaliseError s f n = refl
   command-free Code.TestBrakes s f n = refl
   command-free Code.AreaEvent s f n = refl
+  command-free Code.NewRecord s f n = refl
+  command-free Code.SignalPassed s f n = refl
+  command-free Code.EndRecord s f n = refl
 
 -- ---- a free place of sections, after one command
 
@@ -119,6 +122,9 @@ module _ (stm : Stm) (place : ℕ) (free : sectionAt place stm .held ≡ false) 
   command-unheld Code.BaliseError s f n g = refl
   command-unheld Code.TestBrakes s f n g = refl
   command-unheld Code.AreaEvent s f n g = rw (deletes-told (byteAt s 0) (stm .track .stay) ∙ g)
+  command-unheld Code.NewRecord s f n g = refl
+  command-unheld Code.SignalPassed s f n g = refl
+  command-unheld Code.EndRecord s f n g = refl
 
 -- ---- any list
 

@@ -13,7 +13,8 @@ use Rattle.rules.specs.Numbers.{isAccepted, isCode, isState, codeOf, sta
 use Rattle.rules.specs.Operands.{codeByte, readingOf, inRange}
 use Rattle.places.specs.Places.{places}
 use Rattle.curve.specs.Free.{freeCurve}
-use Rattle.rules.specs.Places.{emptyTrack, clearedTrack, freeSection, freshTrack}
+use Rattle.rules.specs.Places.{emptyTrack, clearedTrack, freeSection, recordPlaces, freshTrack}
+use Rattle.records.specs.Lives.{freeRecord}
 use Rattle.rules.specs.Table.{noCauses}
 use Rattle.rules.specs.Releases.{freshBrakes, releasedBrakes}
 use Rattle.rules.specs.Odometer.{withState, withBrakes, seenIn, moves, measures, notes, adds, releases, isFresh, supervised, reportedIn}
@@ -50,6 +51,7 @@ holds-nothing stm stay t o b = record {
   sections = λ place. rw (t, free-everywhere places place freeSection);
   forty = rw t;
   overlap = rw t o;
+  records = λ place. rw (t, free-everywhere recordPlaces place freeRecord);
   causes = λ cause. rw b (stands-for (λ each. false) cause);
   aimed = rw b;
   unexpected = rw b;
@@ -212,6 +214,9 @@ other-control Code.Proceed s stm e f = refl
 other-control Code.BaliseError s stm e f = refl
 other-control Code.TestBrakes s stm e f = refl
 other-control Code.AreaEvent s stm e f = refl
+other-control Code.NewRecord s stm e f = refl
+other-control Code.SignalPassed s stm e f = refl
+other-control Code.EndRecord s stm e f = refl
 
 pub state-stays : StateStays
 state-stays stm x e c f =

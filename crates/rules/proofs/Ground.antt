@@ -166,6 +166,9 @@ module _ (id place : ℕ) (stm : Stm) (held : curveAt place stm .held ≡ true) 
   command-lost Code.BaliseError s f n = lost-nothing (curveAt place stm) held
   command-lost Code.TestBrakes s f n = lost-nothing (curveAt place stm) held
   command-lost Code.AreaEvent s f n = lost-nothing (curveAt place stm) held
+  command-lost Code.NewRecord s f n = lost-nothing (curveAt place stm) held
+  command-lost Code.SignalPassed s f n = lost-nothing (curveAt place stm) held
+  command-lost Code.EndRecord s f n = lost-nothing (curveAt place stm) held
 
 -- ---- any list
 

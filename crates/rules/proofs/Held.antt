@@ -150,6 +150,9 @@ fortyAfter Code.Proceed s forty = false
 fortyAfter Code.BaliseError s forty = forty
 fortyAfter Code.TestBrakes s forty = forty
 fortyAfter Code.AreaEvent s forty = forty
+fortyAfter Code.NewRecord s forty = forty
+fortyAfter Code.SignalPassed s forty = forty
+fortyAfter Code.EndRecord s forty = forty
 
 forty-by : (code : Code) (s : List ℕ) (stm : Stm)
     → (isCode Code.Start code || isCode Code.ChangeState code && isState State.CS (stateOf (byteAt s 0))) ≡ false
@@ -169,6 +172,9 @@ forty-by Code.Proceed s stm f = refl
 forty-by Code.BaliseError s stm f = refl
 forty-by Code.TestBrakes s stm f = refl
 forty-by Code.AreaEvent s stm f = refl
+forty-by Code.NewRecord s stm f = refl
+forty-by Code.SignalPassed s stm f = refl
+forty-by Code.EndRecord s stm f = refl
 
 forty-fresh : (code : Code) (s : List ℕ) (stm : Stm)
     → (isCode Code.Start code || isCode Code.ChangeState code && isState State.CS (stateOf (byteAt s 0))) ≡ true
@@ -186,6 +192,9 @@ forty-fresh Code.Proceed s stm f = impossible f
 forty-fresh Code.BaliseError s stm f = impossible f
 forty-fresh Code.TestBrakes s stm f = impossible f
 forty-fresh Code.AreaEvent s stm f = impossible f
+forty-fresh Code.NewRecord s stm f = impossible f
+forty-fresh Code.SignalPassed s stm f = impossible f
+forty-fresh Code.EndRecord s stm f = impossible f
 
 forty-after : (stm : Stm) (x : Sent) → isAccepted (answerTo stm x) ≡ true
     → stateAfter stm x .track .forty ≡ doneBy (x .command) stm .track .forty
@@ -210,6 +219,9 @@ forty-on Code.Proceed s e = impossible (sym e)
 forty-on Code.BaliseError s e = refl
 forty-on Code.TestBrakes s e = refl
 forty-on Code.AreaEvent s e = refl
+forty-on Code.NewRecord s e = refl
+forty-on Code.SignalPassed s e = refl
+forty-on Code.EndRecord s e = refl
 
 abbrev endsForty : Stm → List ℕ → Bool
 endsForty before command = freshens command || isOf Code.Proceed command
@@ -249,6 +261,9 @@ forty-off Code.Proceed s e = refl
 forty-off Code.BaliseError s e = refl
 forty-off Code.TestBrakes s e = refl
 forty-off Code.AreaEvent s e = refl
+forty-off Code.NewRecord s e = refl
+forty-off Code.SignalPassed s e = refl
+forty-off Code.EndRecord s e = refl
 
 forty-away : (stm : Stm) (x : Sent) (fresh : Bool) → isAccepted (answerTo stm x) ≡ true → freshens (x .command) ≡ fresh
     → passesStop 1 (x .command) ≡ false → stm .track .forty ≡ false → stateAfter stm x .track .forty ≡ false

@@ -7,7 +7,6 @@ use mathlib.Core.List.{List, [], _∷_, map}
 use lib.Dec.{eqb}
 use lib.ListN.{length, length-map}
 use borrow.Author.Tests.{eqb-true, eq-eqb}
-use Rattle.places.specs.Places.{places}
 use Rattle.rules.specs.Places.{anyOf, allOf, placed}
 use Rattle.rules.specs.Units.{differ}
 use Rattle.rules.proofs.Tests.{and-left, and-right, and-both, not-mono, if-made, if-used, cond-by, all-head, all-tail, all-cons, none-passes, all-map}
@@ -95,17 +94,17 @@ module _ {A : Type 0} (held : A → Bool) (id : A → ℕ) where
 
 -- ---- what is asked of places
 
-pub record Sound {A : Type 0} (held : A → Bool) (id : A → ℕ) (good : A → Bool) (xs : List A) : Type 0 where
-  pub size : length xs ≡ places
+pub record Sound {A : Type 0} (size : ℕ) (held : A → Bool) (id : A → ℕ) (good : A → Bool) (xs : List A) : Type 0 where
+  pub sized : length xs ≡ size
   pub each : allOf good xs ≡ true
   pub once : differ held id xs ≡ true
 
-module _ {A : Type 0} {held : A → Bool} {id : A → ℕ} {good : A → Bool} {xs : List A} (s : Sound held id good xs) where
+module _ {A : Type 0} {n : ℕ} {held : A → Bool} {id : A → ℕ} {good : A → Bool} {xs : List A} (s : Sound n held id good xs) where
   -- every place changed
   pub map-sound : (f : A → A) → HoldsNoMore held id f → ((x : A) → good x ≡ true → good (f x) ≡ true)
-      → Sound held id good (map f xs)
+      → Sound n held id good (map f xs)
   map-sound f keeps well = record {
-    size = length-map xs f ∙ s .size;
+    sized = length-map xs f ∙ s .sized;
     each = all-map good good f well xs (s .each);
     once = map-differs held id f keeps xs (s .once);
   }
@@ -114,34 +113,34 @@ module _ {A : Type 0} {held : A → Bool} {id : A → ℕ} {good : A → Bool} {
   pub changed-sound : (t : A → Bool) (g : A → A)
       → ((x : A) → t x ≡ true → held (g x) ≡ true → (held x ≡ true) × (id (g x) ≡ id x))
       → ((x : A) → good x ≡ true → good (g x) ≡ true)
-      → Sound held id good (map (λ x. cond (t x) (g x) x) xs)
+      → Sound n held id good (map (λ x. cond (t x) (g x) x) xs)
   changed-sound t g keeps well =
       map-sound (λ x. cond (t x) (g x) x)
       (λ x. cond-by (λ y. held y ≡ true → (held x ≡ true) × (id y ≡ id x)) (t x) (g x) x (keeps x) (λ _ h. (h, refl)))
       (λ x. cond-by (λ y. good x ≡ true → good y ≡ true) (t x) (g x) x (λ _. well x) (λ _ h. h))
 
   -- the place changed that holds an id, which it keeps
-  replaced-sound : (n : ℕ) (g : A → A) → ((x : A) → id (g x) ≡ n) → ((x : A) → good (g x) ≡ true)
-      → Sound held id good (map (λ x. cond (isHere held id n x) (g x) x) xs)
-  replaced-sound n g same well =
-      changed-sound (isHere held id n) g
-      (λ x t _. (and-left (held x) (eqb (id x) n) t, same x ∙ sym (same-id held id n x t))) (λ x _. well x)
+  replaced-sound : (m : ℕ) (g : A → A) → ((x : A) → id (g x) ≡ m) → ((x : A) → good (g x) ≡ true)
+      → Sound n held id good (map (λ x. cond (isHere held id m x) (g x) x) xs)
+  replaced-sound m g same well =
+      changed-sound (isHere held id m) g
+      (λ x t _. (and-left (held x) (eqb (id x) m) t, same x ∙ sym (same-id held id m x t))) (λ x _. well x)
 
   -- an element of an id that no place holds
   placed-sound : (new : A) → good new ≡ true → anyOf (isHere held id (id new)) xs ≡ false
-      → Sound held id good (placed held new xs)
+      → Sound n held id good (placed held new xs)
   placed-sound new own t = record {
-    size = length-placed held id new xs ∙ s .size;
+    sized = length-placed held id new xs ∙ s .sized;
     each = all-placed held id good new own xs (s .each);
     once = placed-differs held id new xs (none-passes (isHere held id (id new)) xs t) (s .once);
   }
 
   -- a new element: where its id is held, g tells what stands there then
   pub given-sound : (new : A) (g : A → A) → good new ≡ true → ((x : A) → id (g x) ≡ id new) → ((x : A) → good (g x) ≡ true)
-      → Sound held id good
+      → Sound n held id good
       (cond (anyOf (isHere held id (id new)) xs) (map (λ x. cond (isHere held id (id new) x) (g x) x) xs) (placed held new xs))
   given-sound new g own same well =
       let is = isHere held id (id new) in
-      cond-by (Sound held id good) (anyOf is xs) (map (λ x. cond (is x) (g x) x) xs) (placed held new xs)
+      cond-by (Sound n held id good) (anyOf is xs) (map (λ x. cond (is x) (g x) x) xs) (placed held new xs)
       (λ _. replaced-sound (id new) g same well)
       (λ t. placed-sound new own t)

@@ -16,8 +16,9 @@ use Rattle.areas.specs.declared.Event.{Event}
 use Rattle.areas.specs.Numbers.{isEvent}
 use Rattle.areas.specs.Rows.{isTaken}
 use Rattle.rules.specs.Numbers.{isCode, isState, codeOf, stateOf, isAccepted}
-use Rattle.rules.specs.Operands.{codeByte, within, bitOf, extraOf, trainOf, trainInRange, startInRange, readingOf, curveOf, curveInRange, newCurveInRange, sectionOf, sectionInRange, eventIn, eventSpeed, eventSpeedInRange, eventInRange, inRange}
-use Rattle.rules.specs.Places.{clearedTrack, passedTrack, withCurves, withSections, withForty, givenCurve, endedCurve, givenSection, endedSection}
+use Rattle.rules.specs.Operands.{codeByte, within, bitOf, extraOf, trainOf, trainInRange, startInRange, readingOf, curveOf, curveInRange, newCurveInRange, sectionOf, sectionInRange, eventIn, eventSpeed, eventSpeedInRange, eventInRange, recordOf, newRecordInRange, signalIn, routeIn, inRange}
+use Rattle.rules.specs.Places.{clearedTrack, passedTrack, withCurves, withSections, withForty, withRecords, givenCurve, endedCurve, givenSection, endedSection, givenRecord, endedRecord, signalledRecords}
+use Rattle.records.specs.declared.EtRecord.{EtRecord}
 use Rattle.rules.specs.Releases.{freshBrakes, brakesBy}
 use Rattle.rules.specs.BrakeTest.{begunTest, leftTest}
 use Rattle.rules.specs.Odometer.{withState, withTrack, withBrakes, withTest}
@@ -25,7 +26,7 @@ use Rattle.rules.specs.Reports.{shownFields, reportWith, reportInDA, rep
 use Rattle.rules.specs.Commands.{freshStm, entered, fortyBy, stopped, carriedOut, padded, remembered, acceptedOf}
 use Rattle.rules.specs.Refusals.{isPath, isAllowed, ordersDA, testsOutside, isUntaken}
 use Rattle.rules.specs.Runs.{Sent, answerTo, stateAfter, stateAtEnd}
-use Rattle.rules.specs.Units.{isExtraSound, isSectionSound, IsUnit, CallKeepsUnit, EveryRunIsUnit}
+use Rattle.rules.specs.Units.{isExtraSound, isSectionSound, isRecordSound, IsUnit, CallKeepsUnit, EveryRunIsUnit}
 use Rattle.rules.specs.declared.Code.{Code}
 use Rattle.rules.specs.declared.State.{State}
 use Rattle.rules.specs.declared.Verdict.{Verdict}
@@ -36,6 +37,7 @@ use Rattle.rules.specs.declared.Stm.{Stm}
 use Rattle.rules.proofs.Answers.{Passed, after-accepted, after-other, passed}
 use Rattle.rules.proofs.Tests.{impossible, and-left, and-right, and-both, or-left, or-right, or-second, unless-used, joined-first, joined-each}
 use Rattle.rules.proofs.SoundTracks.{CurvesSound, SectionsSound, curve-given, curve-ended, section-given, section-ended, TrackSound, track-cleared, track-passed}
+use Rattle.rules.proofs.SoundRecords.{RecordsSound, record-given, record-ended, records-signalled}
 use Rattle.rules.proofs.Counts.{LimitsSound, brakes-fresh, brakes-by}
 use Rattle.rules.proofs.TestParts.{begun-sound, left-sound}
 use Rattle.rules.proofs.UnitParts.{Parts, unit-parts, parts-unit, with-track, with-brakes, fresh-at, fresh-parts, fresh-is-unit}
@@ -100,18 +102,23 @@ module _ (stm : Stm) (p : Parts stm) where
   curves-parts : (curves : List Curve) → CurvesSound curves → Parts (withTrack stm (withCurves (stm .track) curves))
   curves-parts curves c =
       let places = p .body .places in
-      track-parts (withCurves (stm .track) curves) (record { curves = c; sections = places .sections; stay = places .stay })
+      track-parts (withCurves (stm .track) curves) (record { curves = c; sections = places .sections; stay = places .stay; records = places .records })
 
   sections-parts : (sections : List Section) → SectionsSound (stm .train .length) sections
       → Parts (withTrack stm (withSections (stm .track) sections))
   sections-parts sections s =
       let places = p .body .places in
-      track-parts (withSections (stm .track) sections) (record { curves = places .curves; sections = s; stay = places .stay })
+      track-parts (withSections (stm .track) sections) (record { curves = places .curves; sections = s; stay = places .stay; records = places .records })
 
   forty-parts : (forty : Bool) → Parts (withTrack stm (withForty (stm .track) forty))
   forty-parts forty =
       let places = p .body .places in
-      track-parts (withForty (stm .track) forty) (record { curves = places .curves; sections = places .sections; stay = places .stay })
+      track-parts (withForty (stm .track) forty) (record { curves = places .curves; sections = places .sections; stay = places .stay; records = places .records })
+
+  records-parts : (ets : List EtRecord) → RecordsSound ets → Parts (withTrack stm (withRecords (stm .track) ets))
+  records-parts ets s =
+      let places = p .body .places in
+      track-parts (withRecords (stm .track) ets) (record { curves = places .curves; sections = places .sections; stay = places .stay; records = s })
 
   -- ---- causes that a command adds, in DA
 
@@ -174,6 +181,10 @@ given-extra s = go (bitOf 2 (byteAt s 0))
     go : (flag : Bool) → isExtraSound (extraOf flag) Verdict.Pending ≡ true
     go true = refl
     go false = refl
+
+given-record : (s : List ℕ) → newRecordInRange s ≡ true → isRecordSound (recordOf s) ≡ true
+unfolding newRecordInRange recordOf
+given-record s e = rw (and-right (leb (byteAt s 1) 3) (curveInRange (recordOf s .curve)) e)
 
 given-curve : (s : List ℕ) → newCurveInRange s ≡ true → curveInRange (curveOf s) ≡ true
 unfolding newCurveInRange
@@ -266,6 +277,15 @@ carried-parts Code.Proceed s stm g p = forty-parts stm p false
 carried-parts Code.BaliseError s stm g p = by-parts stm p Code.BaliseError 0 (stm .kept .speed) (train-limits stm p (g .started)) (g .allowed)
 carried-parts Code.TestBrakes s stm g p = begun-parts stm p (asked-in-de stm (g .inDE))
 carried-parts Code.AreaEvent s stm g p = event-parts s stm p (g .range) (g .taken)
+carried-parts Code.NewRecord s stm g p =
+    records-parts stm p (givenRecord (recordOf s) (stm .track .records))
+    (record-given (stm .track .records) (p .body .places .records) (recordOf s) (given-record s (g .range)))
+carried-parts Code.SignalPassed s stm g p =
+    records-parts stm p (signalledRecords (signalIn s) (routeIn s) (stm .track .records))
+    (records-signalled (stm .track .records) (p .body .places .records) (signalIn s) (routeIn s))
+carried-parts Code.EndRecord s stm g p =
+    records-parts stm p (endedRecord (byteAt s 0) (stm .track .records))
+    (record-ended (stm .track .records) (p .body .places .records) (byteAt s 0))
 
 -- ---- what is remembered of it
 

@@ -7,6 +7,7 @@ pub mod Same
 pub mod Ordering
 pub mod Standing
 pub mod AtPlaces
+pub mod Supervising
 pub mod After
 pub mod Resent
 pub mod Held
@@ -27,6 +28,7 @@ pub mod Past
 pub mod Claims
 pub mod Holding
 pub mod SoundStays
+pub mod SoundRecords
 pub mod SoundTracks
 pub mod Counts
 pub mod HighReadings
@@ -41,6 +43,7 @@ pub mod Stays
 pub mod AreaRuns
 pub mod OneArea
 pub mod TestAlone
+pub mod AtRecords
 pub mod Changes
 pub mod Monotone
 pub mod TwoTracks

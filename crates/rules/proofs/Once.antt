@@ -89,6 +89,9 @@ carried-started Code.Proceed s stm e = was-started stm e
 carried-started Code.BaliseError s stm e = was-started stm e
 carried-started Code.TestBrakes s stm e = was-started stm e
 carried-started Code.AreaEvent s stm e = was-started stm e
+carried-started Code.NewRecord s stm e = was-started stm e
+carried-started Code.SignalPassed s stm e = was-started stm e
+carried-started Code.EndRecord s stm e = was-started stm e
 
 pub accepted-started : (stm : Stm) (command : List ℕ) → Passed stm command → acceptedOf command stm .control .started ≡ true
 unfolding acceptedOf remembered

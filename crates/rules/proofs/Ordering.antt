@@ -211,6 +211,9 @@ by-other Code.Proceed s stm u f = unchanged refl refl
 by-other Code.BaliseError s stm u f = orders (stm .kept .speed) refl
 by-other Code.TestBrakes s stm u f = unchanged refl refl
 by-other Code.AreaEvent s stm u f = unchanged refl refl
+by-other Code.NewRecord s stm u f = unchanged refl refl
+by-other Code.SignalPassed s stm u f = unchanged refl refl
+by-other Code.EndRecord s stm u f = unchanged refl refl
 
 pub brakes-by-other : (stm : Stm) (x : Sent)
     → isAccepted (answerTo stm x) ≡ true → isSupervised stm (x .command) ≡ false → freshens (x .command) ≡ false

@@ -100,6 +100,9 @@ module _ (id place : ℕ) (stm : Stm) (held : curveAt place stm .held ≡ true) 
   command-past Code.BaliseError s f n u = refl
   command-past Code.TestBrakes s f n u = refl
   command-past Code.AreaEvent s f n u = refl
+  command-past Code.NewRecord s f n u = refl
+  command-past Code.SignalPassed s f n u = refl
+  command-past Code.EndRecord s f n u = refl
 
 module _ (id place : ℕ) where
   one-past : (stm : Stm) (x : Sent) (accepted : Bool) → isAccepted (answerTo stm x) ≡ accepted

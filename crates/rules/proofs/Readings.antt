@@ -97,6 +97,9 @@ other-keeps Code.Proceed s stm e = (refl, refl)
 other-keeps Code.BaliseError s stm e = (refl, refl)
 other-keeps Code.TestBrakes s stm e = (refl, refl)
 other-keeps Code.AreaEvent s stm e = (refl, refl)
+other-keeps Code.NewRecord s stm e = (refl, refl)
+other-keeps Code.SignalPassed s stm e = (refl, refl)
+other-keeps Code.EndRecord s stm e = (refl, refl)
 
 abbrev brings : Stm → List ℕ → Bool
 brings before command = isOf Code.Start command || isReport command

@@ -21,6 +21,7 @@ use Rattle.rules.specs.declared.Reading.{Reading}
 use Rattle.rules.specs.declared.Stm.{Stm}
 use Rattle.rules.proofs.Tests.{impossible, and-left, cond-by}
 use Rattle.rules.proofs.SoundTracks.{TrackSound, curves-noted, track-moved}
+use Rattle.rules.proofs.SoundRecords.{records-noted}
 use Rattle.rules.proofs.Counts.{LimitsSound, brakes-noted, brakes-added, brakes-released}
 use Rattle.rules.proofs.HighReadings.{Alike, signed-alike}
 use Rattle.rules.proofs.Feedback.{reached-more, set-stays}
@@ -65,6 +66,7 @@ noted-track : (train : Train) (kept : Kept) (track : Track) → TrackSound (trai
 unfolding notedTrack judgedNow
 noted-track train kept track t = record {
   curves = curves-noted (track .curves) (t .curves) (judgedHere (brakingOf train (kept .halka)) (kept .speed));
+  records = records-noted (track .records) (t .records) (judgedHere (brakingOf train (kept .halka)) (kept .speed));
   sections = t .sections;
   stay = t .stay;
 }

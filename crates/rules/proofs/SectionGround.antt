@@ -110,6 +110,9 @@ module _ (id place : ℕ) (stm : Stm) where
     command-moved Code.BaliseError s f n d = refl
     command-moved Code.TestBrakes s f n d = refl
     command-moved Code.AreaEvent s f n d = rw (deletes-told (byteAt s 0) (stm .track .stay) ∙ d)
+    command-moved Code.NewRecord s f n d = refl
+    command-moved Code.SignalPassed s f n d = refl
+    command-moved Code.EndRecord s f n d = refl
 
   -- ---- a place that does not hold the id goes on not holding it
 
@@ -154,6 +157,9 @@ module _ (id place : ℕ) (stm : Stm) where
   command-gone Code.BaliseError s f n d g = g
   command-gone Code.TestBrakes s f n d g = g
   command-gone Code.AreaEvent s f n d g = rw (deletes-told (byteAt s 0) (stm .track .stay) ∙ d) g
+  command-gone Code.NewRecord s f n d g = g
+  command-gone Code.SignalPassed s f n d g = g
+  command-gone Code.EndRecord s f n d g = g
 
 -- ---- any list
 

@@ -1,4 +1,4 @@
--- What the commands and the reports keep of the track: of curves and sections 16 places, figures in range, no id twice; a sound stay.
+-- What the commands and the reports keep of the track: of curves and sections 16 places, figures in range, no id twice; a sound stay; sound records.
 use mathlib.Core.Path.{_≡_, refl, sym, subst}
 use Prim.Native.Nat.{ℕ, _+_, _-_, _*_, _≤_}
 use native.Mathlib.Omega.{arith}
@@ -10,7 +10,7 @@ use Rattle.curve.specs.declared.Curve.{Curve}
 use Rattle.curve.specs.declared.Judged.{Judged}
 use Rattle.curve.specs.Ground.{movedBy}
 use Rattle.interval.specs.Judging.{notedAt}
-use Rattle.places.specs.Places.{movedAll, notedAll}
+use Rattle.places.specs.Places.{places, movedAll, notedAll}
 use Rattle.areas.specs.declared.Event.{Event}
 use Rattle.areas.specs.declared.Stay.{Stay}
 use Rattle.areas.specs.Numbers.{isEvent}
@@ -24,12 +24,13 @@ use Rattle.rules.specs.declared.Section.{Section}
 use Rattle.rules.specs.declared.Track.{Track}
 use Rattle.rules.proofs.Tests.{impossible, and-left, and-both, if-made, if-mono, cond-by, zip-self}
 use Rattle.rules.proofs.SoundStays.{stay-cleared, stay-covered, stay-passed}
+use Rattle.rules.proofs.SoundRecords.{RecordsSound, records-empty, records-moved}
 use Rattle.rules.proofs.Holding.{Sound, map-sound, changed-sound, given-sound}
 
 -- ---- curves
 
 abbrev pub CurvesSound : List Curve → Type 0
-CurvesSound curves = Sound (λ curve. curve .held) (λ curve. curve .id) isCurveSound curves
+CurvesSound curves = Sound places (λ curve. curve .held) (λ curve. curve .id) isCurveSound curves
 
 -- the past is no figure
 pub curve-given : (curves : List Curve) → CurvesSound curves → (new : Curve) → curveInRange new ≡ true
@@ -71,7 +72,7 @@ curves-moved curves s moved =
 -- ---- sections
 
 abbrev pub SectionsSound : ℕ → List Section → Type 0
-SectionsSound length sections = Sound (λ section. section .held) (λ section. section .id) (isSectionSound length) sections
+SectionsSound length sections = Sound places (λ section. section .held) (λ section. section .id) (isSectionSound length) sections
 
 module _ (length : ℕ) where
   pub section-given : (sections : List Section) → SectionsSound length sections
@@ -128,17 +129,19 @@ pub record TrackSound (length : ℕ) (track : Track) : Type 0 where
   pub curves : CurvesSound (track .curves)
   pub sections : SectionsSound length (track .sections)
   pub stay : isStaySound (track .stay) ≡ true
+  pub records : RecordsSound (track .records)
 
 sections-empty : (length : ℕ) → SectionsSound length noSections
 unfolding allOf
-sections-empty length = record { size = refl; each = refl; once = refl }
+sections-empty length = record { sized = refl; each = refl; once = refl }
 
 track-empty : (length : ℕ) (stay : Stay) → isStaySound stay ≡ true → TrackSound length (emptyTrack stay)
 unfolding emptyTrack allOf
 track-empty length stay s = record {
-  curves = record { size = refl; each = refl; once = refl };
+  curves = record { sized = refl; each = refl; once = refl };
   sections = sections-empty length;
   stay = s;
+  records = records-empty;
 }
 
 pub track-fresh : (length : ℕ) → TrackSound length freshTrack
@@ -159,6 +162,7 @@ track-passed length event speed track s t r = record {
       cond-by (SectionsSound length) (deletesSections event (track .stay)) noSections (track .sections) (λ _. sections-empty length)
       (λ _. s .sections);
   stay = stay-passed event speed (track .stay) (s .stay) t r;
+  records = s .records;
 }
 
 pub track-moved : (length moved : ℕ) (track : Track) → TrackSound length track → TrackSound length (movedTrack length moved track)
@@ -167,4 +171,5 @@ track-moved length moved track s = record {
   curves = curves-moved (track .curves) (s .curves) moved;
   sections = sections-moved length moved (track .sections) (s .sections);
   stay = stay-covered moved (track .stay) (s .stay);
+  records = records-moved (track .records) (s .records) moved (λ curve. moved-in-range curve moved);
 }

@@ -79,6 +79,9 @@ stayBy Code.Proceed s stm = stm .track .stay
 stayBy Code.BaliseError s stm = stm .track .stay
 stayBy Code.TestBrakes s stm = stm .track .stay
 stayBy Code.AreaEvent s stm = passedStay (eventIn s) (eventSpeed s) (stm .track .stay)
+stayBy Code.NewRecord s stm = stm .track .stay
+stayBy Code.SignalPassed s stm = stm .track .stay
+stayBy Code.EndRecord s stm = stm .track .stay
 
 stay-by : (code : Code) (s : List ℕ) (stm : Stm) → carriedOut code s stm .track .stay ≡ stayBy code s stm
 unfolding freshWith freshTrack emptyTrack stopped passedTrack
@@ -95,6 +98,9 @@ stay-by Code.Proceed s stm = refl
 stay-by Code.BaliseError s stm = refl
 stay-by Code.TestBrakes s stm = refl
 stay-by Code.AreaEvent s stm = refl
+stay-by Code.NewRecord s stm = refl
+stay-by Code.SignalPassed s stm = refl
+stay-by Code.EndRecord s stm = refl
 
 pub stay-after : (stm : Stm) (x : Sent) (code : Code) → isAccepted (answerTo stm x) ≡ true → codeOf (codeByte (x .command)) ≡ code
     → stateAfter stm x .track .stay ≡ stayBy code (operandsOf (x .command)) stm

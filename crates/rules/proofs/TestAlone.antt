@@ -1,6 +1,6 @@
 -- Brake test A touches nothing else: two units that differ in it only. Assumes nothing.
 use mathlib.Core.Path.{_≡_, refl, sym, ap, _∙_, subst}
-use Prim.Native.Nat.{ℕ, zero, suc, _%_}
+use Prim.Native.Nat.{ℕ, zero, suc, _/_, _%_}
 use mathlib.Core.Bool.{Bool, true, false, cond, not, _||_}
 use mathlib.Core.List.{List, [], _∷_}
 use lib.Dec.{eqb}
@@ -15,7 +15,7 @@ use Rattle.rules.specs.Releases.{releasedBrakes}
 use Rattle.rules.specs.Odometer.{withState, withBrakes, withTest, withExtra, withTrain, seenIn, moves, measures, notes, adds, releases, isFresh, supervised, reportedIn}
 use Rattle.rules.specs.Reports.{messagesOf, reportInDA, reportOutside, testOrder, reportFor, reportOf}
 use Rattle.rules.specs.Commands.{freshWith, entered, stopped, carriedOut, withLast, remembered, acceptedOf}
-use Rattle.rules.specs.Refusals.{isRepeat, isNext, endsNothing, findsNoPlace, testsOutside, testsTwice, isUntaken, rulesFor, firstOf, answerFor, answerOf}
+use Rattle.rules.specs.Refusals.{isRepeat, isNext, endsNothing, findsNoPlace, testsOutside, testsTwice, isUntaken, findsNoRecordPlace, repeatsNothing, rulesFor, firstOf, answerFor, answerOf}
 use Rattle.rules.specs.Calls.{callOf}
 use Rattle.rules.specs.Runs.{Sent, answerTo, stateAfter, momentOf, moments, stateAtEnd, isOf}
 use Rattle.rules.specs.History.{isIn}
@@ -36,8 +36,8 @@ use Rattle.rules.proofs.Answers.{after-accepted, after-other}
 use Rattle.rules.proofs.Tests.{impossible, or-left, or-right, neither, all-head, all-tail}
 use Rattle.rules.proofs.Told.{code-is}
 use Rattle.rules.proofs.Ordering.{doneBy}
-use Rattle.rules.proofs.Bits.{six-bits}
-use Rattle.rules.proofs.Written.{written-is, inDA, da-fields}
+use Rattle.rules.proofs.Bits.{seven-bits}
+use Rattle.rules.proofs.Written.{written-is, shown, inDA, da-fields}
 use Rattle.rules.proofs.After.{control-after, extraIn, extraBy}
 use Rattle.rules.proofs.TestRuns.{extra-after-by, zero-after}
 
@@ -75,7 +75,7 @@ aside-like test last extra u = record { control = refl; train = refl; track = re
 
 test-apart : (u w : Stm) (command : List ℕ) (code : Code) (s : List ℕ) → LikeButTest u w → w .last .bytes ≡ u .last .bytes
     → isCode Code.TestBrakes code ≡ false → rulesFor w command code s ≡ rulesFor u command code s
-unfolding rulesFor isRepeat isNext endsNothing findsNoPlace testsOutside testsTwice isUntaken
+unfolding rulesFor isRepeat isNext endsNothing findsNoPlace testsOutside testsTwice isUntaken findsNoRecordPlace repeatsNothing
 test-apart u w command code s like bytes other = rw (other, like .control, like .track, like .feedback, bytes)
 
 same-answer : (u w : Stm) (x : Sent) → LikeButTest u w → w .last .bytes ≡ u .last .bytes → isOf Code.TestBrakes (x .command) ≡ false
@@ -157,6 +157,12 @@ carried-like Code.BaliseError s u test last extra other same =
 carried-like Code.TestBrakes s u test last extra other same = impossible (sym other)
 carried-like Code.AreaEvent s u test last extra other same =
     record { control = refl; train = refl; track = refl; brakes = refl; feedback = refl; kept = refl }
+carried-like Code.NewRecord s u test last extra other same =
+    record { control = refl; train = refl; track = refl; brakes = refl; feedback = refl; kept = refl }
+carried-like Code.SignalPassed s u test last extra other same =
+    record { control = refl; train = refl; track = refl; brakes = refl; feedback = refl; kept = refl }
+carried-like Code.EndRecord s u test last extra other same =
+    record { control = refl; train = refl; track = refl; brakes = refl; feedback = refl; kept = refl }
 
 -- the last command and its report aside
 last-aside : (u w : Stm) (last last′ : Last) → LikeButTest u w → LikeButTest (withLast u last) (withLast w last′)
@@ -198,32 +204,35 @@ others-same a o o′ b2 b3 b4 b5 b6 b7 b8 b9 b10 b11 m m′ rest (suc (suc (suc 
 others-same a o o′ b2 b3 b4 b5 b6 b7 b8 b9 b10 b11 m m′ rest (suc (suc (suc (suc (suc (suc (suc (suc (suc (suc (suc (suc zero)))))))))))) e = impossible (sym e)
 others-same a o o′ b2 b3 b4 b5 b6 b7 b8 b9 b10 b11 m m′ rest (suc (suc (suc (suc (suc (suc (suc (suc (suc (suc (suc (suc (suc n))))))))))))) e = refl
 
-low-same : (b : Brakes) (feedback : Measured) (test test′ : BrakeTest) → messagesOf b feedback test′ % 8 ≡ messagesOf b feedback test % 8
+low-same : (b : Brakes) (feedback : Measured) (test test′ : BrakeTest) (et : Bool)
+    → (messagesOf b feedback test′ et % 8 ≡ messagesOf b feedback test et % 8)
+    × (messagesOf b feedback test′ et / 64 ≡ messagesOf b feedback test et / 64)
 unfolding messagesOf
-low-same b feedback test test′ =
+low-same b feedback test test′ et =
     let bits =
-    six-bits (b .drift) (b .failed) (feedback .fault) (isRunning (test .stage)) (hasPassed (test .result)) (hasFailed (test .result)) in
+    seven-bits (b .drift) (b .failed) (feedback .fault) (isRunning (test .stage)) (hasPassed (test .result)) (hasFailed (test .result)) et in
     let bits′ =
-    six-bits (b .drift) (b .failed) (feedback .fault) (isRunning (test′ .stage)) (hasPassed (test′ .result)) (hasFailed (test′ .result)) in
-    bits′ .low ∙ sym (bits .low)
+    seven-bits (b .drift) (b .failed) (feedback .fault) (isRunning (test′ .stage)) (hasPassed (test′ .result)) (hasFailed (test′ .result)) et in
+    (bits′ .low ∙ sym (bits .low), bits′ .high ∙ sym (bits .high))
 
-lists-like : {a o o′ b2 b3 b4 b5 b6 b7 b8 b9 b10 b11 m m′ : ℕ} {rest : List ℕ} → ((a ≡ 0 → ⊥) → o′ ≡ o) → m′ % 8 ≡ m % 8
+lists-like : {a o o′ b2 b3 b4 b5 b6 b7 b8 b9 b10 b11 m m′ : ℕ} {rest : List ℕ} → ((a ≡ 0 → ⊥) → o′ ≡ o) → (m′ % 8 ≡ m % 8) × (m′ / 64 ≡ m / 64)
     → ReportsLike (a ∷ o ∷ b2 ∷ b3 ∷ b4 ∷ b5 ∷ b6 ∷ b7 ∷ b8 ∷ b9 ∷ b10 ∷ b11 ∷ m ∷ rest) (a ∷ o′ ∷ b2 ∷ b3 ∷ b4 ∷ b5 ∷ b6 ∷ b7 ∷ b8 ∷ b9 ∷ b10 ∷ b11 ∷ m′ ∷ rest)
 lists-like {a} {o} {o′} {b2} {b3} {b4} {b5} {b6} {b7} {b8} {b9} {b10} {b11} {m} {m′} {rest} same low = record {
   others = λ n e. others-same a o o′ b2 b3 b4 b5 b6 b7 b8 b9 b10 b11 m m′ rest n e;
   order = same;
-  messages = low;
+  messages = low .0;
+  marked = low .1;
 }
 
 outside-like : (state : State) (order order′ : ℕ) (u : Stm) (test : BrakeTest) (last : Last) (extra : ℕ)
     → ((stateNumber state ≡ 0 → ⊥) → order′ ≡ order)
     → ReportsLike (reportOutside state order u) (reportOutside state order′ (aside test last extra u))
 unfolding reportOutside
-outside-like state order order′ u test last extra same = lists-like same (low-same (u .brakes) (u .feedback) (u .test) test)
+outside-like state order order′ u test last extra same = lists-like same (low-same (u .brakes) (u .feedback) (u .test) test false)
 
 da-like : (u : Stm) (test : BrakeTest) (last : Last) → ReportsLike (inDA u) (inDA (withLast (withTest u test) last))
 unfolding seenIn
-da-like u test last = lists-like (λ _. refl) (low-same (u .brakes) (u .feedback) (u .test) test)
+da-like u test last = lists-like (λ _. refl) (low-same (u .brakes) (u .feedback) (u .test) test (shown u .et))
 
 reports-like : (state : State) (u : Stm) (test : BrakeTest) (last : Last) (extra : ℕ)
     → (isState State.DA state ≡ true → extra ≡ u .train .times .extra)
@@ -270,6 +279,9 @@ extras-by Code.Proceed s u w control same da = same
 extras-by Code.BaliseError s u w control same da = same
 extras-by Code.TestBrakes s u w control same da = same
 extras-by Code.AreaEvent s u w control same da = same
+extras-by Code.NewRecord s u w control same da = same
+extras-by Code.SignalPassed s u w control same da = same
+extras-by Code.EndRecord s u w control same da = same
 
 extras-after : (u w : Stm) (x : Sent) → isAccepted (answerTo u x) ≡ true → isAccepted (answerTo w x) ≡ true → w .control ≡ u .control
     → w .train .times .extra ≡ u .train .times .extra → isIn State.DA (stateAfter u x) ≡ true

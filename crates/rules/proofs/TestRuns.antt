@@ -23,7 +23,7 @@ use Rattle.rules.specs.Operands.{codeByte, numberOf, bitOf, extraOf, tra
 use Rattle.rules.specs.BrakeTest.{isRunning, hasPassed, hasFailed, begunTest, leftTest, isUnfit, phaseOn, hasDropped, testedAt, extraLeft}
 use Rattle.rules.specs.Odometer.{withExtra}
 use Rattle.rules.specs.Reports.{reportOutside, reportFor, reportOf}
-use Rattle.rules.specs.Refusals.{isStart, isRepeat, isNext, endsNothing, findsNoPlace, testsOutside, testsTwice, isUntaken, firstOf, rulesFor, wholeAnswer, answerFor, answerOf}
+use Rattle.rules.specs.Refusals.{isStart, isRepeat, isNext, endsNothing, findsNoPlace, testsOutside, testsTwice, isUntaken, findsNoRecordPlace, repeatsNothing, firstOf, rulesFor, wholeAnswer, answerFor, answerOf}
 use Rattle.rules.specs.Calls.{callOf}
 use Rattle.rules.specs.Runs.{Sent, answerTo, stateAfter, stateAtEnd, noneAccepted, isOf}
 use Rattle.rules.specs.History.{firstOperand, speedOf, externalOf, isIn, isReport, collected, standsThrough}
@@ -140,6 +140,9 @@ other-test Code.Proceed s stm n c = refl
 other-test Code.BaliseError s stm n c = refl
 other-test Code.TestBrakes s stm n c = impossible (sym n)
 other-test Code.AreaEvent s stm n c = refl
+other-test Code.NewRecord s stm n c = refl
+other-test Code.SignalPassed s stm n c = refl
+other-test Code.EndRecord s stm n c = refl
 
 no-da : (state : State) → isState State.DE state ≡ true → isState State.DA state ≡ false
 no-da State.DE e = refl
@@ -373,14 +376,14 @@ asked-late false false false false false true true e = refl
 asked-late false false false false false true false e = refl
 asked-late false false false false false false runs e = refl
 
--- the answer by the list 5 to 16 to a command with this code
+-- the answer by the list 5 to 18 to a command with this code
 abbrev AnsweredAs : Stm → List ℕ → Code → Type 0
 AnsweredAs stm command code =
     let answer = answerNumber (firstOf (rulesFor stm command code (operandsOf command))) in
     isJudged answer ≡ true → answer ≡ cond (isIn State.DE stm) (cond (runsIn (stm .test .stage)) 15 0) 14
 
 asked-whole : (stm : Stm) (command : List ℕ) → AnsweredAs stm command Code.TestBrakes
-unfolding rulesFor endsNothing findsNoPlace testsOutside testsTwice isUntaken
+unfolding rulesFor endsNothing findsNoPlace testsOutside testsTwice isUntaken findsNoRecordPlace repeatsNothing
 asked-whole stm command e =
     asked-late (not (stm .control .started) && not (isStart command)) (eqb (numberOf command) 0)
     (not (isStart command) && not (isRepeat stm command) && not (isNext stm command))
@@ -431,6 +434,9 @@ idle-by Code.Proceed s stm n e = refl
 idle-by Code.BaliseError s stm n e = refl
 idle-by Code.TestBrakes s stm n e = impossible (sym n)
 idle-by Code.AreaEvent s stm n e = refl
+idle-by Code.NewRecord s stm n e = refl
+idle-by Code.SignalPassed s stm n e = refl
+idle-by Code.EndRecord s stm n e = refl
 
 abbrev begins : Stm → List ℕ → Bool
 begins before command = isOf Code.TestBrakes command || isOf Code.Start command
@@ -513,6 +519,9 @@ unpassed-by Code.Proceed s stm n e = refl
 unpassed-by Code.BaliseError s stm n e = refl
 unpassed-by Code.TestBrakes s stm n e = refl
 unpassed-by Code.AreaEvent s stm n e = refl
+unpassed-by Code.NewRecord s stm n e = refl
+unpassed-by Code.SignalPassed s stm n e = refl
+unpassed-by Code.EndRecord s stm n e = refl
 
 not-passed : (stm : Stm) → not (bitOf 4 (messagesIn (reportOf stm))) ≡ true → hasPassed (stm .test .result) ≡ false
 not-passed stm e = go (stm .test .result) (messages-tell stm .passed .1)
@@ -583,6 +592,9 @@ zero-by Code.Proceed s stm n e = e
 zero-by Code.BaliseError s stm n e = e
 zero-by Code.TestBrakes s stm n e = e
 zero-by Code.AreaEvent s stm n e = e
+zero-by Code.NewRecord s stm n e = e
+zero-by Code.SignalPassed s stm n e = e
+zero-by Code.EndRecord s stm n e = e
 
 abbrev starts : Stm → List ℕ → Bool
 starts before command = isOf Code.Start command

@@ -20,6 +20,9 @@ code-told Code.Proceed = refl
 code-told Code.BaliseError = refl
 code-told Code.TestBrakes = refl
 code-told Code.AreaEvent = refl
+code-told Code.NewRecord = refl
+code-told Code.SignalPassed = refl
+code-told Code.EndRecord = refl
 
 state-told : (state : State) → stateOf (stateNumber state) ≡ state
 unfolding stateOf

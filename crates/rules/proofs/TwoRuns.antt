@@ -6,6 +6,7 @@ use mathlib.Core.List.{List, [], _∷_}
 use native.Mathlib.Nat.{le-refl}
 use Rattle.wire.specs.Form.{operandsOf}
 use Rattle.curve.specs.Deceleration.{levelOf}
+use Rattle.records.specs.Lives.{isEffective}
 use Rattle.rules.specs.Numbers.{codeOf, isCode, isAccepted, isRefused}
 use Rattle.rules.specs.Operands.{codeByte, numberOf, readingOf}
 use Rattle.rules.specs.Speeds.{brakingOf}
@@ -93,6 +94,9 @@ is-odometer Code.Proceed e = absurd (false≢true e)
 is-odometer Code.BaliseError e = absurd (false≢true e)
 is-odometer Code.TestBrakes e = absurd (false≢true e)
 is-odometer Code.AreaEvent e = absurd (false≢true e)
+is-odometer Code.NewRecord e = absurd (false≢true e)
+is-odometer Code.SignalPassed e = absurd (false≢true e)
+is-odometer Code.EndRecord e = absurd (false≢true e)
 
 abbrev pub IsOdometer : List ℕ → Type 0
 IsOdometer command = codeOf (codeByte command) ≡ Code.Odometer
@@ -195,6 +199,8 @@ area-answered Answer.AllHeld report area e = absurd (false≢true (sym e))
 area-answered Answer.OutsideDE report area e = absurd (false≢true (sym e))
 area-answered Answer.TestRunning report area e = absurd (false≢true (sym e))
 area-answered Answer.NotTaken report area e = absurd (false≢true (sym e))
+area-answered Answer.NoRecordPlace report area e = absurd (false≢true (sym e))
+area-answered Answer.NotSuperseded report area e = absurd (false≢true (sym e))
 
 -- where a command is not refused, the area holds the report that the unit keeps
 area-is : (stm : Stm) (x : Sent) → isRefused (answerTo stm x) ≡ false → momentOf stm x .area ≡ stateAfter stm x .last .report
@@ -208,6 +214,9 @@ claimed u w x y runs h h′ = record {
   interval = λ curve curve′ holds holds′ same.
       interval-no-earlier (runs .units .train) (runs .units .kept) curve curve′
       (runs .units .track .curves .stricter curve curve′ holds holds′ same);
+  records = λ et et′ holds holds′ same effective.
+      let c = runs .units .track .records .compared et et′ holds holds′ same in
+      (ap isEffective (c .condition) ∙ effective, interval-no-earlier (runs .units .train) (runs .units .kept) (et .curve) (et′ .curve) (c .stricter));
   order = rw (area-is u x h, area-is w y h′) (runs .report .order);
 }
 

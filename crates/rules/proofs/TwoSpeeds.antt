@@ -1,9 +1,10 @@
 -- Two units, of which the second has the weaker brakes, the stricter track and the higher speed: its VMAX and permitted speed are
 -- no higher, its curves brake where the first's do, and no interval is earlier. Assumes nothing.
 use Prim.Native.Nat.{ℕ, _≤_, min}
-use mathlib.Core.Path.{_≡_, refl}
+use mathlib.Core.Path.{_≡_, refl, _∙_, ap, subst}
 use mathlib.Core.Bool.{Bool, true, false, _&&_, and-eq-true-iff}
-use mathlib.Core.List.{List, [], _∷_, map, foldr, List·Memᴰ·head, List·Memᴰ·tail, Memᴰ·map, Memᴰ·of-map}
+use mathlib.Core.Logic.{inl, inr}
+use mathlib.Core.List.{List, [], _∷_, map, foldr, List·Memᴰ·head, List·Memᴰ·tail, Memᴰ·map, Memᴰ·of-map, Memᴰ·append-left, Memᴰ·append-right, List·Memᴰ·append-cases}
 use native.Mathlib.Nat.{le-refl, le-trans}
 use native.Mathlib.Omega.{arith}
 use lib.Dec.{leb}
@@ -23,17 +24,20 @@ use Rattle.interval.proofs.Halving.{permitted-is-not-higher}
 use Rattle.places.proofs.Held.{permits-here, brakes-here}
 use Rattle.areas.specs.declared.Stay.{Stay}
 use Rattle.areas.specs.Stays.{areaSpeed}
-use Rattle.rules.specs.Places.{anyOf}
+use Rattle.records.specs.declared.EtRecord.{EtRecord}
+use Rattle.records.specs.Lives.{isEffective, asCurve}
+use Rattle.rules.specs.Places.{anyOf, allCurves}
 use Rattle.rules.specs.Speeds.{brakingOf, judgedNow, sectionSpeed, stopSpeed, vmaxOf, permittedSpeed}
 use Rattle.rules.specs.TwoRuns.{TrainsCompared}
-use Rattle.rules.specs.History.{Holds, HoldsSection}
+use Rattle.rules.specs.History.{Holds, HoldsSection, RecordIs}
 use Rattle.rules.specs.declared.Train.{Train}
 use Rattle.rules.specs.declared.Section.{Section}
 use Rattle.rules.specs.declared.Track.{Track}
 use Rattle.rules.specs.declared.Kept.{Kept}
 use Rattle.rules.proofs.Monotone.{_⇒_, and-implies, leb-implies, Passing, any-implies}
 use Rattle.rules.proofs.Monotone.{least-within-base, least-within, least-no-more}
-use Rattle.rules.proofs.TwoTracks.{CurvesBelow, SectionsBelow, TracksBelow}
+use Rattle.rules.proofs.TwoTracks.{CurvesBelow, RecordsBelow, SectionsBelow, TracksBelow}
+use Rattle.rules.proofs.Supervising.{record-in, record-of}
 
 -- ---- one curve
 
@@ -78,12 +82,37 @@ any-brakes-is interval braking v (curve ∷ curves) =
     rw (brakes-here braking v curve interval, any-brakes-is interval braking v curves)
 
 -- a held curve of the first has a stricter one in the second
-stricter-held : {curves curves′ : List Curve} → CurvesBelow curves curves′ → (curve : Curve) → curve ∈ curves → curve .held ≡ true
-    → (curve′ : Curve) × Holds curves′ curve′ × Stricter curve curve′
-stricter-held {curves} below curve place held =
+abbrev Covered : List Curve → List Curve → Type 0
+Covered curves curves′ =
+    (curve : Curve) → curve ∈ curves → curve .held ≡ true → (curve′ : Curve) × Holds curves′ curve′ × Stricter curve curve′
+
+curves-covered : {curves curves′ : List Curve} → CurvesBelow curves curves′ → Covered curves curves′
+curves-covered {curves} below curve place held =
     let holds : Holds curves curve = record { place = place; held = held } in
     let (curve′, holds′, same) = below .partner curve holds in
     (curve′, holds′, below .stricter curve curve′ holds holds′ same)
+
+-- and so has a record that is a curve
+records-covered : {ets ets′ : List EtRecord} → RecordsBelow ets ets′ → Covered (map asCurve ets) (map asCurve ets′)
+records-covered {ets} {ets′} below curve place held =
+    let r = record-of ets curve (record { place = place; held = held }) in
+    let (et′, holds′, same) = below .partner (r .et) (r .holds) in
+    let c = below .compared (r .et) et′ (r .holds) holds′ same in
+    let is : RecordIs ets′ (et′ .curve) =
+    record { et = et′; holds = holds′; effective = ap isEffective (c .condition) ∙ r .effective; is = refl } in
+    (et′ .curve, record-in is, subst (λ before. Stricter before (et′ .curve)) (r .is) (c .stricter))
+
+all-covered : {track track′ : Track} → TracksBelow track track′ → Covered (allCurves track) (allCurves track′)
+unfolding allCurves
+all-covered {track} {track′} below curve place held =
+    elim (List·Memᴰ·append-cases (track .curves) place) [
+      | inl m ↦
+          let (curve′, holds′, stricter) = curves-covered (below .curves) curve m held in
+          (curve′, record { place = Memᴰ·append-left (map asCurve (track′ .records)) (holds′ .place); held = holds′ .held }, stricter)
+      | inr m ↦
+          let (curve′, holds′, stricter) = records-covered (below .records) curve m held in
+          (curve′, record { place = Memᴰ·append-right (track′ .curves) (holds′ .place); held = holds′ .held }, stricter)
+    ]
 
 module _ {braking braking′ : Braking} (weaker : WeakerBraking braking braking′) {v v′ : ℕ} (faster : v ≤ v′) where
   brakes-still : (interval : Interval) (curve curve′ : Curve) → Stricter curve curve′ → curve′ .held ≡ true
@@ -102,7 +131,7 @@ module _ {braking braking′ : Braking} (weaker : WeakerBraking braking braking�
       rw (held-permits braking v curve held, held-permits braking′ v′ curve′ held′)
       (permitted-is-not-higher curve curve′ _ _ _ _ stricter (weaker .level) (weaker .leads .permitted))
 
-  module _ {curves curves′ : List Curve} (below : CurvesBelow curves curves′) where
+  module _ {curves curves′ : List Curve} (covered : Covered curves curves′) where
     any-still-brakes : (interval : Interval)
         → anyBrakes interval (judgedAll braking v curves) ⇒ anyBrakes interval (judgedAll braking′ v′ curves′)
     any-still-brakes interval =
@@ -112,7 +141,7 @@ module _ {braking braking′ : Braking} (weaker : WeakerBraking braking braking�
         found : (curve : Curve) → curve ∈ curves → brakes interval braking v curve ≡ true
             → Passing (brakes interval braking′ v′) curves′
         found curve place e =
-            let (curve′, holds′, stricter) = stricter-held below curve place (held-if-braking interval braking v curve e) in
+            let (curve′, holds′, stricter) = covered curve place (held-if-braking interval braking v curve e) in
             (curve′, holds′ .place, brakes-still interval curve curve′ stricter (holds′ .held) .run e)
 
     least-permitted-no-more : leastPermitted (judgedAll braking′ v′ curves′) ≤ leastPermitted (judgedAll braking v curves)
@@ -123,7 +152,7 @@ module _ {braking braking′ : Braking} (weaker : WeakerBraking braking braking�
         least-at : (curve : Curve) → curve ∈ curves → (t : Bool) → curve .held ≡ t
             → foldr min 300 (map (permits braking′ v′) curves′) ≤ permits braking v curve
         least-at curve place true e =
-            let (curve′, holds′, stricter) = stricter-held below curve place e in
+            let (curve′, holds′, stricter) = covered curve place e in
             le-trans (least-within 300 (map (permits braking′ v′) curves′) (Memᴰ·map (permits braking′ v′) (holds′ .place)))
             (permits-no-more curve curve′ stricter e (holds′ .held))
         least-at curve place false e =
@@ -200,14 +229,14 @@ module _ {train train′ : Train} (trains : TrainsCompared train train′) where
 
     module _ {kept kept′ : Kept} (kepts : KeptBelow kept kept′) where
       pub curves-still-brake : (interval : Interval)
-          → anyBrakes interval (judgedNow train kept (track .curves))
-          ⇒ anyBrakes interval (judgedNow train′ kept′ (track′ .curves))
+          → anyBrakes interval (judgedNow train kept (allCurves track))
+          ⇒ anyBrakes interval (judgedNow train′ kept′ (allCurves track′))
       unfolding judgedNow
-      curves-still-brake interval = any-still-brakes (weaker-braking kepts) (kepts .speed) (tracks .curves) interval
+      curves-still-brake interval = any-still-brakes (weaker-braking kepts) (kepts .speed) (all-covered tracks) interval
 
       pub permitted-no-higher :
-          permittedSpeed (vmaxOf train′ track′) (judgedNow train′ kept′ (track′ .curves))
-          ≤ permittedSpeed (vmaxOf train track) (judgedNow train kept (track .curves))
+          permittedSpeed (vmaxOf train′ track′) (judgedNow train′ kept′ (allCurves track′))
+          ≤ permittedSpeed (vmaxOf train track) (judgedNow train kept (allCurves track))
       unfolding permittedSpeed judgedNow
       permitted-no-higher =
-          omega (arith, vmax-no-higher, least-permitted-no-more (weaker-braking kepts) (kepts .speed) (tracks .curves))
+          omega (arith, vmax-no-higher, least-permitted-no-more (weaker-braking kepts) (kepts .speed) (all-covered tracks))

@@ -12,17 +12,20 @@ use Rattle.interval.specs.Judging.{notedAt}
 use Rattle.places.specs.Places.{movedHere, judgedHere, judgedAll, notedAll}
 use Rattle.areas.specs.Stays.{coveredStay}
 use Rattle.curve.specs.Claims.{Stricter}
+use Rattle.records.specs.declared.EtRecord.{EtRecord}
+use Rattle.records.specs.Lives.{asCurve, coveredBy, movedRecord}
 use Rattle.places.proofs.Held.{held-moved, moved-held, moved-id}
-use Rattle.rules.specs.Places.{isCurve, holdsCurve, movedSection, movedTrack}
+use Rattle.rules.specs.Places.{isCurve, holdsCurve, isRecord, holdsRecord, movedSection, movedTrack}
 use Rattle.rules.specs.Speeds.{brakingOf, judgedNow}
-use Rattle.rules.specs.Odometer.{notedTrack}
-use Rattle.rules.specs.TwoRuns.{TracksCompared}
-use Rattle.rules.specs.History.{Holds, HoldsSection}
+use Rattle.rules.specs.Odometer.{notedRecord, notedTrack}
+use Rattle.rules.specs.TwoRuns.{RecordsCompared, TracksCompared}
+use Rattle.rules.specs.History.{Holds, HoldsSection, HoldsRecord}
 use Rattle.rules.specs.declared.Train.{Train}
 use Rattle.rules.specs.declared.Section.{Section}
 use Rattle.rules.specs.declared.Track.{Track}
 use Rattle.rules.specs.declared.Kept.{Kept}
 use Rattle.rules.proofs.Monotone.{any-in, any-from}
+use Rattle.rules.proofs.Supervising.{moved-record, moved-record-held, moved-record-id, noted-at-places}
 
 -- ---- the two tracks
 
@@ -31,6 +34,12 @@ pub record CurvesBelow (curves curves′ : List Curve) : Type 0 where
   pub partner : (curve : Curve) → Holds curves curve → (curve′ : Curve) × Holds curves′ curve′ × (curve′ .id ≡ curve .id)
   pub stricter :
       (curve curve′ : Curve) → Holds curves curve → Holds curves′ curve′ → curve′ .id ≡ curve .id → Stricter curve curve′
+
+-- records likewise, of one condition
+pub record RecordsBelow (ets ets′ : List EtRecord) : Type 0 where
+  pub partner : (et : EtRecord) → HoldsRecord ets et → (et′ : EtRecord) × HoldsRecord ets′ et′ × (et′ .curve .id ≡ et .curve .id)
+  pub compared :
+      (et et′ : EtRecord) → HoldsRecord ets et → HoldsRecord ets′ et′ → et′ .curve .id ≡ et .curve .id → RecordsCompared et et′
 
 -- each held section of the first is held just so by the second
 abbrev pub SectionsBelow : List Section → List Section → Type 0
@@ -41,6 +50,7 @@ pub record TracksBelow (track track′ : Track) : Type 0 where
   pub sections : SectionsBelow (track .sections) (track′ .sections)
   pub forty : track′ .forty ≡ track .forty
   pub stay : track′ .stay ≡ track .stay
+  pub records : RecordsBelow (track .records) (track′ .records)
 
 -- ---- at the beginning
 
@@ -54,6 +64,16 @@ held-id id curves e =
     let (held, same) = and-eq-true-iff (curve .held) (eqb (curve .id) id) .0 t in
     (curve, record { place = place; held = held }, eqb-true (curve .id) id same)
 
+record-id-held : {ets : List EtRecord} {et : EtRecord} → HoldsRecord ets et → holdsRecord (et .curve .id) ets ≡ true
+record-id-held {ets} {et} holds =
+    any-in (isRecord (et .curve .id)) ets (holds .place) (ap₂ _&&_ (holds .held) (eq-eqb (et .curve .id) (et .curve .id) refl))
+
+held-record-id : (id : ℕ) (ets : List EtRecord) → holdsRecord id ets ≡ true → (et : EtRecord) × HoldsRecord ets et × (et .curve .id ≡ id)
+held-record-id id ets e =
+    let (et, place, t) = any-from (isRecord id) ets e in
+    let (held, same) = and-eq-true-iff (et .curve .held) (eqb (et .curve .id) id) .0 t in
+    (et, record { place = place; held = held }, eqb-true (et .curve .id) id same)
+
 pub tracks-at-first : {track track′ : Track} → TracksCompared track track′ → TracksBelow track track′
 tracks-at-first {track′ = track′} compared = record {
   curves = record {
@@ -63,6 +83,10 @@ tracks-at-first {track′ = track′} compared = record {
   sections = compared .sections;
   forty = compared .forty;
   stay = compared .stay;
+  records = record {
+    partner = λ et holds. held-record-id (et .curve .id) (track′ .records) (compared .recordIds (et .curve .id) (record-id-held holds));
+    compared = compared .records;
+  };
 }
 
 -- ---- curves changed
@@ -103,6 +127,44 @@ curves-changed {change′ = change′} keeps keeps′ h {curves} {curves′} bel
       subst₂ Stricter e e′ (h before before′ (was .held) (was′ .held) closer);
 }
 
+-- ---- records changed
+
+-- a change of a record that leaves its place and its id
+record KeepsRecord (change : EtRecord → EtRecord) : Type 0 where
+  held : (et : EtRecord) → change et .curve .held ≡ et .curve .held
+  id : (et : EtRecord) → change et .curve .id ≡ et .curve .id
+
+module _ {change : EtRecord → EtRecord} (keeps : KeepsRecord change) where
+  record-changed : {ets : List EtRecord} {et : EtRecord} → HoldsRecord ets et → HoldsRecord (map change ets) (change et)
+  record-changed {et = et} holds = record { place = Memᴰ·map change (holds .place); held = keeps .held et ∙ holds .held }
+
+  -- what a held record was before the change
+  record-before : (ets : List EtRecord) {et : EtRecord} → HoldsRecord (map change ets) et
+      → (before : EtRecord) × HoldsRecord ets before × (change before ≡ et) × (before .curve .id ≡ et .curve .id)
+  record-before ets holds =
+      let (before, place, e) = Memᴰ·of-map change ets (holds .place) in (
+        before,
+        record { place = place; held = sym (keeps .held before) ∙ ap (λ et. et .curve .held) e ∙ holds .held },
+        e,
+        sym (keeps .id before) ∙ ap (λ et. et .curve .id) e,
+      )
+
+records-changed : {change change′ : EtRecord → EtRecord} → KeepsRecord change → KeepsRecord change′
+    → ((et et′ : EtRecord) → et .curve .held ≡ true → et′ .curve .held ≡ true → RecordsCompared et et′
+    → RecordsCompared (change et) (change′ et′))
+    → {ets ets′ : List EtRecord} → RecordsBelow ets ets′ → RecordsBelow (map change ets) (map change′ ets′)
+records-changed {change′ = change′} keeps keeps′ h {ets} {ets′} below = record {
+  partner = λ et holds.
+      let (before, was, e, id) = record-before keeps ets holds in
+      let (before′, was′, same) = below .partner before was in
+      (change′ before′, record-changed keeps′ was′, keeps′ .id before′ ∙ same ∙ id);
+  compared = λ et et′ holds holds′ same.
+      let (before, was, e, id) = record-before keeps ets holds in
+      let (before′, was′, e′, id′) = record-before keeps′ ets′ holds′ in
+      let closer = below .compared before before′ was was′ (id′ ∙ same ∙ sym id) in
+      subst₂ RecordsCompared e e′ (h before before′ (was .held) (was′ .held) closer);
+}
+
 -- ---- ground moved
 
 moved-keeps : (moved : ℕ) → Keeps (movedHere moved)
@@ -117,6 +179,23 @@ moved-stricter moved curve curve′ held held′ stricter =
       gradient = stricter .gradient;
       distance = omega (arith, stricter .distance);
       speed = stricter .speed;
+    })
+
+record-moved-keeps : (moved : ℕ) → KeepsRecord (movedRecord moved)
+record-moved-keeps moved = record { held = moved-record-held moved; id = moved-record-id moved }
+
+record-moved-compared : (moved : ℕ) (et et′ : EtRecord) → et .curve .held ≡ true → et′ .curve .held ≡ true
+    → RecordsCompared et et′ → RecordsCompared (movedRecord moved et) (movedRecord moved et′)
+record-moved-compared moved et et′ held held′ c =
+    rw (moved-record moved et held, moved-record moved et′ held′)
+    (record {
+      condition = ap (coveredBy moved) (c .condition);
+      stricter = record {
+        kind = c .stricter .kind;
+        gradient = c .stricter .gradient;
+        distance = omega (arith, c .stricter .distance);
+        speed = c .stricter .speed;
+      };
     })
 
 -- a section is held only where it was held before
@@ -144,6 +223,7 @@ tracks-moved length moved below = record {
   sections = sections-moved length moved (below .sections);
   forty = below .forty;
   stay = ap (coveredStay moved) (below .stay);
+  records = records-changed (record-moved-keeps moved) (record-moved-keeps moved) (record-moved-compared moved) (below .records);
 }
 
 -- ---- past in B noted
@@ -165,6 +245,25 @@ noted-stricter : (braking braking′ : Braking) (v v′ : ℕ) (curve curve′ :
 noted-stricter braking braking′ v v′ curve curve′ held held′ stricter =
     record { kind = stricter .kind; gradient = stricter .gradient; distance = stricter .distance; speed = stricter .speed }
 
+-- a record noted at its place: what is judged there is its curve, if it is one
+abbrev notedEt : Braking → ℕ → EtRecord → EtRecord
+notedEt braking v et = notedRecord et (judgedHere braking v (asCurve et))
+
+record-noted-keeps : (braking : Braking) (v : ℕ) → KeepsRecord (notedEt braking v)
+record-noted-keeps braking v = record { held = λ et. refl; id = λ et. refl }
+
+record-noted-compared : (braking braking′ : Braking) (v v′ : ℕ) (et et′ : EtRecord) → et .curve .held ≡ true → et′ .curve .held ≡ true
+    → RecordsCompared et et′ → RecordsCompared (notedEt braking v et) (notedEt braking′ v′ et′)
+record-noted-compared braking braking′ v v′ et et′ held held′ c = record {
+  condition = c .condition;
+  stricter = record {
+    kind = c .stricter .kind;
+    gradient = c .stricter .gradient;
+    distance = c .stricter .distance;
+    speed = c .stricter .speed;
+  };
+}
+
 pub tracks-noted : (train train′ : Train) (kept kept′ : Kept) {track track′ : Track} → TracksBelow track track′
     → TracksBelow (notedTrack train kept track) (notedTrack train′ kept′ track′)
 unfolding notedTrack judgedNow
@@ -179,4 +278,8 @@ tracks-noted train train′ kept kept′ {track} {track′} below =
       sections = below .sections;
       forty = below .forty;
       stay = below .stay;
+      records =
+          rw (noted-at-places (judgedHere braking (kept .speed)) (track .records), noted-at-places (judgedHere braking′ (kept′ .speed)) (track′ .records))
+          (records-changed (record-noted-keeps braking (kept .speed)) (record-noted-keeps braking′ (kept′ .speed))
+          (record-noted-compared braking braking′ (kept .speed) (kept′ .speed)) (below .records));
     }

@@ -61,9 +61,10 @@ unit-parts stm u = record {
   body = record {
     range = u .train;
     places = record {
-      curves = record { size = u .curvePlaces; each = u .curves; once = u .curveIds };
-      sections = record { size = u .sectionPlaces; each = u .sections; once = u .sectionIds };
+      curves = record { sized = u .curvePlaces; each = u .curves; once = u .curveIds };
+      sections = record { sized = u .sectionPlaces; each = u .sections; once = u .sectionIds };
       stay = u .stay;
+      records = record { sized = u .recordPlaces; each = u .records; once = u .recordIds };
     };
     counts = record { service = u .service; emergency = u .emergency; hold = u .hold; roll = u .roll; drift = u .drift };
     reached = u .feedback;
@@ -78,12 +79,14 @@ pub parts-unit : (stm : Stm) → Parts stm → length (stm .last .bytes) ≡ lon
 parts-unit stm p bytes report =
     let b = p .body in
     record {
-      curvePlaces = b .places .curves .size;
-      sectionPlaces = b .places .sections .size;
+      curvePlaces = b .places .curves .sized;
+      sectionPlaces = b .places .sections .sized;
       train = b .range;
       curves = b .places .curves .each;
       sections = b .places .sections .each;
       stay = b .places .stay;
+      recordPlaces = b .places .records .sized;
+      records = b .places .records .each;
       speed = b .speed;
       feedback = b .reached;
       stage = p .test .stage;
@@ -97,6 +100,7 @@ parts-unit stm p bytes report =
       failed = p .at .failed;
       curveIds = b .places .curves .once;
       sectionIds = b .places .sections .once;
+      recordIds = b .places .records .once;
       reference = p .at .reference;
       lastBytes = bytes;
       lastReport = report;

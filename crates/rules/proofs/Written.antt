@@ -3,9 +3,9 @@ use mathlib.Core.Path.{_≡_, refl, sym, _∙_, ap, ap₂, subst}
 use Prim.Native.Nat.{ℕ}
 use native.Mathlib.Omega.{arith}
 use native.Mathlib.Decide.{decLt}
-use mathlib.Core.Bool.{Bool, true, false, cond, not, _&&_, and-true, and-false, or-false}
+use mathlib.Core.Bool.{Bool, true, false, cond, not, _&&_, _||_, false≢true, and-true, and-false, or-false}
 use mathlib.Core.Logic.{inl, inr}
-use mathlib.Core.List.{List, [], _∷_, map, zipWith, List·Memᴰ, Memᴰ·cast, Memᴰ·map, Memᴰ·of-map}
+use mathlib.Core.List.{List, [], _∷_, map, Memᴰ·cast, Memᴰ·map, Memᴰ·of-map, Memᴰ·append-left, Memᴰ·append-right, List·Memᴰ·append-cases}
 use lib.Dec.{eqb, ltb}
 use borrow.Author.Tests.{eqb-true, eqb-false, ne-eqb, ltb-false}
 use Rattle.wire.specs.Report.{causesIn, permittedIn, vmaxIn, shownIn, messagesIn, offeredIn}
@@ -28,20 +28,22 @@ use Rattle.colours.specs.declared.Showing.{Showing}
 use Rattle.colours.specs.declared.Row.{Row}
 use Rattle.colours.proofs.Claims.{one-row-holds, row-listed}
 use Rattle.rules.specs.Numbers.{isAccepted, isState, orderNumber, bitNumber}
-use Rattle.rules.specs.Places.{anyOf}
-use Rattle.rules.specs.Speeds.{brakingOf, judgedNow, vmaxOf, permittedSpeed}
+use Rattle.records.specs.Lives.{asCurve}
+use Rattle.rules.specs.Places.{anyOf, allCurves}
+use Rattle.rules.specs.Speeds.{brakingOf, judgedBy, judgedNow, vmaxOf, permittedSpeed}
 use Rattle.rules.specs.Table.{causes, stands, orderOf, pressedFor, isReleasable, isDropped}
 use Rattle.rules.specs.Odometer.{isInsufficient, seenIn}
-use Rattle.rules.specs.Shows.{candidate, goesBefore, chosen, shownAs, showingOf}
+use Rattle.rules.specs.Operands.{bitOf}
+use Rattle.rules.specs.Shows.{candidate, noCandidate, setNumber, isLower, goesBefore, chosenOf, chosenFrom, candidates, chosen, shownAs, showingOf}
 use Rattle.rules.specs.Reports.{causesNumber, messagesOf, wouldDrop, offeredOf, isOver, shownFields, changeOf, two, four, reportWith, reportInDA, reportOutside, testOrder, reportFor, reportOf}
 use Rattle.rules.specs.Commands.{withLast, remembered, acceptedOf}
 use Rattle.rules.specs.BrakeTest.{isRunning, hasPassed, hasFailed}
 use Rattle.rules.specs.Runs.{Sent, answerTo, stateAfter, momentOf, stateAtEnd}
 use Rattle.rules.specs.History.{Tells}
-use Rattle.rules.specs.History.{isIn, Holds, intervalIn}
+use Rattle.rules.specs.History.{isIn, Holds, Supervises, intervalIn}
 use Rattle.rules.specs.Claims.{UpToSources}
 use Rattle.rules.specs.Columns.{IsFree}
-use Rattle.rules.specs.Written.{Largest, permits, UpToPermitted, Offers, WrittenInDA, ReportInDA, GoesFirst, ByRow, Shows, ShowsNone, ShownInDA, StateAndOrder, WrittenOutside, ReportOutsideDA, FromRow, EveryReportHasARow, orderInTest, runsIn, MessagesTell, MessagesAreWritten}
+use Rattle.rules.specs.Written.{Largest, permits, UpToPermitted, Offers, WrittenInDA, ReportInDA, FirstAtEqual, GoesFirst, ByRow, Shows, ShowsNone, ShownInDA, StateAndOrder, WrittenOutside, ReportOutsideDA, FromRow, EveryReportHasARow, orderInTest, runsIn, MessagesTell, MessagesAreWritten}
 use Rattle.rules.specs.declared.State.{State}
 use Rattle.rules.specs.declared.Cause.{Cause}
 use Rattle.rules.specs.declared.Causes.{Causes}
@@ -57,9 +59,10 @@ use Rattle.rules.proofs.Tests.{impossible, both, and-both, zip-self}
 use Rattle.rules.proofs.Told.{state-is}
 use Rattle.rules.proofs.Ordering.{doneBy}
 use Rattle.rules.proofs.Monotone.{any-in, any-from}
-use Rattle.rules.proofs.Claims.{not-lower-told, held-one, vmax-is-least, permitted-is-least, shown-is-first}
+use Rattle.rules.proofs.Claims.{not-lower-told, over-first, held-one, vmax-is-least, permitted-is-least, shown-is-first}
 use Rattle.rules.proofs.Columns.{listed, free-in, tells-by}
-use Rattle.rules.proofs.Bits.{bit-stands, twelve-bits, order-strongest, six-bits, two-bits}
+use Rattle.rules.proofs.Bits.{bit-stands, twelve-bits, order-strongest, seven-bits, two-bits}
+use Rattle.rules.proofs.Supervising.{record-in, among-all, from-all, as-itself, as-held}
 
 -- ---- the report that is written is the unit's
 
@@ -88,13 +91,13 @@ written-is stm x e = answer-writes-report stm x (rw e) ∙ report-kept stm x e
 
 module _ (stm : Stm) where
   abbrev pub judged : List Judged
-  judged = judgedNow (stm .train) (stm .kept) (stm .track .curves)
+  judged = judgedNow (stm .train) (stm .kept) (allCurves (stm .track))
 
   abbrev pub vmax : ℕ
   vmax = vmaxOf (stm .train) (stm .track)
 
   abbrev pub shown : Candidate
-  shown = chosen (stm .track .curves) judged
+  shown = chosen (judgedBy (stm .train) (stm .kept)) (stm .track)
 
   abbrev pub fieldOr : (Candidate → ℕ) → ℕ → ℕ
   fieldOr field none = cond (shown .judged .held) (field shown) none
@@ -113,7 +116,7 @@ module _ (stm : Stm) where
       ∷ showingNumber (showingOf shown)
       ∷ barNumber (rowFor shown .bar)
       ∷ modeNumber (rowFor shown .mode)
-      ∷ messagesOf (stm .brakes) (stm .feedback) (stm .test)
+      ∷ messagesOf (stm .brakes) (stm .feedback) (stm .test) (shown .et)
       ∷ offeredOf (seenIn stm) (stm .brakes .causes)
       ∷ four (changeOf (stm .train) (stm .kept) shown) (areaNumber (stm .track .stay .area) ∷ []))))
 
@@ -140,7 +143,7 @@ module _ (stm : Stm) where
   vmax-largest = let l = vmax-is-least (stm .train) (stm .track) in record { holds = l .0; most = l .1 }
 
   -- a curve among those judged
-  judged-in : {curve : Curve} → Holds (stm .track .curves) curve
+  judged-in : {curve : Curve} → Holds (allCurves (stm .track)) curve
       → judgedOf (brakingOf (stm .train) (stm .kept .halka)) (stm .kept .speed) curve ∈ judged
   unfolding judgedNow
   judged-in {curve} holds =
@@ -149,11 +152,11 @@ module _ (stm : Stm) where
       (Memᴰ·map (judgedHere braking (stm .kept .speed)) (holds .place))
 
   judged-from : (j : Judged) → j ∈ judged → j .held ≡ true
-      → (curve : Curve) × Holds (stm .track .curves) curve × (j .permitted ≡ permits stm curve)
+      → (curve : Curve) × Holds (allCurves (stm .track)) curve × (j .permitted ≡ permits stm curve)
   unfolding judgedNow judgedOf brakingOf levelOf
   judged-from j m h =
       let braking = brakingOf (stm .train) (stm .kept .halka) in
-      let (curve, place, e) = Memᴰ·of-map (judgedHere braking (stm .kept .speed)) (stm .track .curves) m in
+      let (curve, place, e) = Memᴰ·of-map (judgedHere braking (stm .kept .speed)) (allCurves (stm .track)) m in
       let held = sym (judged-held braking (stm .kept .speed) curve) ∙ ap (λ k. k .held) e ∙ h in
       let is = sym e ∙ held-judged braking (stm .kept .speed) curve held in
       (curve, record { place = place; held = held }, ap (λ k. k .permitted) is)
@@ -166,12 +169,15 @@ module _ (stm : Stm) where
         holds = record {
           limit = l .0 .limit;
           top = l .0 .top;
-          curves = λ curve holds. l .0 .curves _ (judged-in holds) (holds .held);
+          curves = λ et curve s. let holds = among-all (stm .track) et curve s in l .0 .curves _ (judged-in holds) (holds .held);
         };
         most = λ m u. l .1 m (record {
           top = u .top;
           limit = u .limit;
-          curves = λ j place held. let (curve, holds, e) = judged-from j place held in rw e (u .curves curve holds);
+          curves = λ j place held.
+              let (curve, holds, e) = judged-from j place held in
+              let (et, s) = from-all (stm .track) curve holds in
+              rw e (u .curves et curve s);
         });
       }
 
@@ -239,27 +245,65 @@ report-in-da stm x e d = rw (written-is stm x e, in-da (stateAfter stm x) d) (wr
 -- ---- the shown curve
 
 module _ (stm : Stm) where
-  -- a place with what it says, and a curve with what it says
-  abbrev says : Curve → Candidate
-  says curve = candidate curve (judgedHere (brakingOf (stm .train) (stm .kept .halka)) (stm .kept .speed) curve)
+  -- a curve, or a record's, with what its place says, and with what it says itself
+  abbrev says : Bool → Curve → Candidate
+  says et curve = candidate et curve (judgedBy (stm .train) (stm .kept) curve)
 
-  abbrev told : Curve → Candidate
-  told curve = candidate curve (judgedOf (brakingOf (stm .train) (stm .kept .halka)) (stm .kept .speed) curve)
+  abbrev told : Bool → Curve → Candidate
+  told et curve = candidate et curve (judgedOf (brakingOf (stm .train) (stm .kept .halka)) (stm .kept .speed) curve)
 
-  says-held : (curve : Curve) → curve .held ≡ true → says curve ≡ told curve
-  says-held curve held = ap (candidate curve) (held-judged (brakingOf (stm .train) (stm .kept .halka)) (stm .kept .speed) curve held)
+  says-held : (et : Bool) (curve : Curve) → curve .held ≡ true → says et curve ≡ told et curve
+  unfolding judgedBy
+  says-held et curve held = ap (candidate et curve) (held-judged (brakingOf (stm .train) (stm .kept .halka)) (stm .kept .speed) curve held)
 
-  held-said : (curve : Curve) → says curve .judged .held ≡ curve .held
-  held-said curve = judged-held (brakingOf (stm .train) (stm .kept .halka)) (stm .kept .speed) curve
+  held-said : (et : Bool) (curve : Curve) → says et curve .judged .held ≡ curve .held
+  unfolding judgedBy
+  held-said et curve = judged-held (brakingOf (stm .train) (stm .kept .halka)) (stm .kept .speed) curve
 
-  candidates : zipWith candidate (stm .track .curves) (judged stm) ≡ map says (stm .track .curves)
-  unfolding judgedNow
-  candidates = zip-self candidate (judgedHere (brakingOf (stm .train) (stm .kept .halka)) (stm .kept .speed)) (stm .track .curves)
+  abbrev all : List Candidate
+  all = candidates (judgedBy (stm .train) (stm .kept)) (stm .track)
+
+  -- what is supervised is among those that may be shown, and what is held among them is supervised
+  may-be-shown : (et : Bool) (curve : Curve) → Supervises (stm .track) et curve → says et curve ∈ all
+  unfolding candidates
+  may-be-shown false curve s =
+      Memᴰ·append-left (map (λ et. says true (asCurve et)) (stm .track .records)) (Memᴰ·map (says false) (s .place))
+  may-be-shown true curve s =
+      let same = as-itself (s .et) (s .holds .held) (s .effective) ∙ s .is in
+      Memᴰ·append-right (map (says false) (stm .track .curves)) (Memᴰ·cast (ap (says true) (sym same)) (Memᴰ·map (λ et. says true (asCurve et)) (s .holds .place)))
+
+  is-supervised : (c : Candidate) → c ∈ all → c .judged .held ≡ true
+      → (et : Bool) × (curve : Curve) × Supervises (stm .track) et curve × (told et curve ≡ c)
+  unfolding candidates
+  is-supervised c m h =
+      elim (List·Memᴰ·append-cases (map (says false) (stm .track .curves)) m) [
+        | inl n ↦
+            let (curve, place, is) = Memᴰ·of-map (says false) (stm .track .curves) n in
+            let held = sym (held-said false curve) ∙ ap (λ x. x .judged .held) is ∙ h in
+            (false, curve, record { place = place; held = held }, sym (says-held false curve held) ∙ is)
+        | inr n ↦
+            let (et, place, is) = Memᴰ·of-map (λ et. says true (asCurve et)) (stm .track .records) n in
+            let held = sym (held-said true (asCurve et)) ∙ ap (λ x. x .judged .held) is ∙ h in
+            let (own, effective) = as-held et held in (
+              true,
+              asCurve et,
+              record { et = et; holds = record { place = place; held = own }; effective = effective; is = sym (as-itself et own effective) },
+              sym (says-held true (asCurve et) held) ∙ is,
+            )
+      ]
+
+  -- of two at equal rank
+  first-at-equal : (et et′ : Bool) (id id′ : ℕ) → isLower (setNumber et′) (setNumber et) (ltb id′ id) ≡ false → FirstAtEqual et et′ id id′
+  first-at-equal false false id id′ e = ltb-false id′ id e
+  first-at-equal false true id id′ e = tt
+  first-at-equal true false id id′ e = absurd (false≢true (sym e))
+  first-at-equal true true id id′ e = ltb-false id′ id e
 
   -- of two, one that the other does not go before
-  goes-first : (curve other : Curve) → goesBefore (told other) (told curve) ≡ false → GoesFirst stm curve other
+  goes-first : (et : Bool) (curve : Curve) (et′ : Bool) (other : Curve) → goesBefore (told et′ other) (told et curve) ≡ false
+      → GoesFirst stm et curve et′ other
   unfolding goesBefore judgedOf brakingOf levelOf
-  goes-first curve other e =
+  goes-first et curve et′ other e =
       let rank = rankOf (intervalIn stm curve) in
       let rank′ = rankOf (intervalIn stm other) in
       let t = not-lower-told rank rank′ _ e in
@@ -267,25 +311,25 @@ module _ (stm : Stm) where
         | yes l ↦ inl l
         | no l ↦
             let level : rank′ ≡ rank = omega (arith, t .0, l) in
-            let u = not-lower-told (permits stm other) (permits stm curve) (ltb (other .id) (curve .id)) (t .1 (sym level)) in
+            let u = not-lower-told (permits stm other) (permits stm curve) _ (t .1 (sym level)) in
             inr (
               level,
               elim (decLt (permits stm curve) (permits stm other)) [
                 | yes m ↦ inl m
                 | no m ↦
                     let even : permits stm other ≡ permits stm curve = omega (arith, u .0, m) in
-                    inr (sym even, ltb-false (other .id) (curve .id) (u .1 even))
+                    inr (sym even, first-at-equal et et′ (curve .id) (other .id) (u .1 even))
               ],
             )
       ]
 
   -- a field of the shown curve
-  field-of : (field : Candidate → ℕ) (none : ℕ) (one : Curve) → told one ≡ shown stm → shown stm .judged .held ≡ true
-      → fieldOr stm field none ≡ field (told one)
+  field-of : (field : Candidate → ℕ) (none : ℕ) (one : Candidate) → one ≡ shown stm → shown stm .judged .held ≡ true
+      → fieldOr stm field none ≡ field one
   field-of field none one is held = ap₂ (λ t c. cond t (field c) none) held (sym is)
 
   -- what is shown, where a curve is
-  showing : (one : Curve) → told one ≡ shown stm → shown stm .judged .held ≡ true → showingOf (shown stm) ≡ Showing.Curve (shownAs (told one))
+  showing : (one : Candidate) → one ≡ shown stm → shown stm .judged .held ≡ true → showingOf (shown stm) ≡ Showing.Curve (shownAs one)
   unfolding showingOf
   showing one is held = ap₂ (λ t c. cond t (Showing.Curve (shownAs c)) Showing.NoCurve) held (sym is)
 
@@ -296,48 +340,70 @@ module _ (stm : Stm) where
       let one = one-row-holds past sufficient what in
       record { row = one .row; alone = one .alone; bar = ap (λ r. barNumber (r .bar)) (e ∙ one .taken); mode = ap (λ r. modeNumber (r .mode)) (e ∙ one .taken) }
 
-  module _ (curve : Curve) (holds : Holds (stm .track .curves) curve) where
-    first-told : (other : Curve) → Holds (stm .track .curves) other
-        → (shown stm .judged .held ≡ true)
-        × List·Memᴰ (shown stm) (map says (stm .track .curves))
-        × (goesBefore (told other) (shown stm) ≡ false)
-    first-told other held =
-        let first =
-        shown-is-first (stm .track .curves) (judged stm) (says other) (rw candidates (Memᴰ·map says (held .place)))
-        (held-said other ∙ held .held) in
-        rw (says-held other (held .held)) at (rw candidates at first)
+  -- bit 6
+  marked-in-da : bitOf 6 (messagesIn (inDA stm)) ≡ shown stm .et
+  unfolding messagesOf
+  marked-in-da =
+      let test = stm .test in
+      seven-bits (stm .brakes .drift) (stm .brakes .failed) (stm .feedback .fault) (isRunning (test .stage)) (hasPassed (test .result))
+      (hasFailed (test .result)) (shown stm .et) .seventh
 
-    shows : Shows stm (inDA stm)
-    unfolding judgedOf isOver brakingOf levelOf isInsufficient dropOf shownAs changeOf
-    shows =
-        let (some-shown, among, _) = first-told curve holds in
-        let (one, place, said) = Memᴰ·of-map says (stm .track .curves) among in
-        let held = sym (held-said one) ∙ ap (λ c. c .judged .held) said ∙ some-shown in
-        let is = sym (says-held one held) ∙ said in
-        record {
-          curve = one;
-          holds = record { place = place; held = held };
-          first = λ other held. goes-first one other (ap (goesBefore (told other)) is ∙ first-told other held .2);
-          id = field-of (λ c. c .curve .id) 255 one is some-shown;
-          interval = ap showingNumber (showing one is some-shown);
-          colours = by-row _ _ _ (ap₂ (λ past what. rowOf past (not (isInsufficient (stm .train) (stm .feedback))) what)
-              (ap (isOver (stm .train) (stm .kept)) (sym is)) (showing one is some-shown));
-          change = four-read _ _ ∙ field-of (λ c. toChange (c .curve) (brakingOf (stm .train) (stm .kept .halka)) (stm .kept .speed)) never one is some-shown;
-        }
+  first-told : (et : Bool) (other : Curve) → Supervises (stm .track) et other
+      → (shown stm .judged .held ≡ true) × (shown stm ∈ all) × (goesBefore (told et other) (shown stm) ≡ false)
+  first-told et other s =
+      let held = among-all (stm .track) et other s .held in
+      let first =
+      shown-is-first (judgedBy (stm .train) (stm .kept)) (stm .track) (says et other) (may-be-shown et other s) (held-said et other ∙ held) in
+      rw (says-held et other held) at first
 
--- none is shown where none is held
-none-shown : (stm : Stm) → ((curve : Curve) → Holds (stm .track .curves) curve → ⊥) → shown stm .judged .held ≡ false
-unfolding chosen judgedOf
+  shows : (et : Bool) (curve : Curve) → Supervises (stm .track) et curve → Shows stm (inDA stm)
+  unfolding judgedOf isOver brakingOf levelOf isInsufficient dropOf shownAs changeOf
+  shows et curve s =
+      let (some-shown, among, _) = first-told et curve s in
+      let (et′, one, supervises, is) = is-supervised (shown stm) among some-shown in
+      record {
+        et = et′;
+        curve = one;
+        holds = supervises;
+        first = λ e other s. goes-first et′ one e other (ap (goesBefore (told e other)) is ∙ first-told e other s .2);
+        marked = marked-in-da ∙ ap (λ c. c .et) (sym is);
+        id = field-of (λ c. c .curve .id) 255 (told et′ one) is some-shown;
+        interval = ap showingNumber (showing (told et′ one) is some-shown);
+        colours = by-row _ _ _ (ap₂ (λ past what. rowOf past (not (isInsufficient (stm .train) (stm .feedback))) what)
+            (ap (isOver (stm .train) (stm .kept)) (sym is)) (showing (told et′ one) is some-shown));
+        change = four-read _ _
+            ∙ field-of (λ c. toChange (c .curve) (brakingOf (stm .train) (stm .kept .halka)) (stm .kept .speed)) never (told et′ one) is some-shown;
+      }
+
+-- none is shown where none is supervised
+none-shown : (stm : Stm) → ((et : Bool) (curve : Curve) → Supervises (stm .track) et curve → ⊥) → shown stm .judged .held ≡ false
+unfolding chosen
 none-shown stm none =
     not-true-false (shown stm .judged .held)
-    (λ h.
-    let among = subst (λ all. shown stm ∈ all) (candidates stm) (held-one (zipWith candidate (stm .track .curves) (judged stm)) h) in
-    let (curve, place, is) = Memᴰ·of-map (says stm) (stm .track .curves) among in
-    none curve (record { place = place; held = sym (held-said stm curve) ∙ ap (λ c. c .judged .held) is ∙ h }))
+    (λ h. let (et, curve, s, _) = is-supervised stm (shown stm) (held-one (all stm) h) h in none et curve s)
+
+-- what is shown where none is held is no record
+no-record : (best : Candidate) (xs : List Candidate) → best .et ≡ false → chosenFrom best xs .judged .held ≡ false → chosenFrom best xs .et ≡ false
+unfolding chosenFrom chosenOf
+no-record best [] e h = e
+no-record best (next ∷ rest) e h = by (next .judged .held && (not (best .judged .held) || goesBefore next best)) refl (no-record best rest e)
+  where
+    by : (t : Bool) → (next .judged .held && (not (best .judged .held) || goesBefore next best)) ≡ t
+        → (chosenFrom best rest .judged .held ≡ false → chosenFrom best rest .et ≡ false) → chosenFrom best (next ∷ rest) .et ≡ false
+    by true p later = absurd (false≢true (sym h ∙ ap (λ c. chosenFrom c rest .judged .held) (ap (λ t. cond t next best) p)
+        ∙ over-first next rest (both (next .judged .held) _ p .0) .0))
+    by false p later =
+        let is = ap (λ t. cond t next best) p in
+        ap (λ c. chosenFrom c rest .et) is ∙ later (sym (ap (λ c. chosenFrom c rest .judged .held) is) ∙ h)
+
+unmarked : (stm : Stm) → shown stm .judged .held ≡ false → shown stm .et ≡ false
+unfolding chosen
+unmarked stm e = no-record noCandidate (all stm) refl e
 
 shows-none : (stm : Stm) → shown stm .judged .held ≡ false → ShowsNone (inDA stm)
 unfolding changeOf showingOf rows holdsFor passing rowsFor rowOf
 shows-none stm e = record {
+  marked = marked-in-da stm ∙ unmarked stm e;
   id = rw e;
   interval = rw e;
   bar = rw e;
@@ -345,12 +411,11 @@ shows-none stm e = record {
   colours = λ past sufficient. record { row = _; alone = refl; bar = rw e; mode = rw e };
   change = four-read _ _ ∙ rw e;
 }
-
 pub shown-in-da : ShownInDA
 shown-in-da stm x e d =
     let after = stateAfter stm x in
     rw (written-is stm x e, in-da after d)
-    (λ curve holds. shows after curve holds, λ none. shows-none after (none-shown after none))
+    (shows after, λ none. shows-none after (none-shown after none))
 
 -- ---- outside DA
 
@@ -363,6 +428,12 @@ module _ (stm : Stm) where
   abbrev Outside : State → Type 0
   Outside state = WrittenOutside state (stm .test .stage) (reportFor state stm)
 
+  outside-marked : bitOf 6 (messagesOf (stm .brakes) (stm .feedback) (stm .test) false) ≡ false
+  unfolding messagesOf
+  outside-marked =
+      seven-bits (stm .brakes .drift) (stm .brakes .failed) (stm .feedback .fault) (isRunning (stm .test .stage)) (hasPassed (stm .test .result))
+      (hasFailed (stm .test .result)) false .seventh
+
   outside : (state : State) (order : ℕ) → StateAndOrder state (stm .test .stage) (reportOutside state order stm)
       → WrittenOutside state (stm .test .stage) (reportOutside state order stm)
   unfolding reportOutside rows holdsFor passing rowsFor
@@ -372,6 +443,7 @@ module _ (stm : Stm) where
     permitted = bytes-read 0 _;
     vmax = bytes-read 0 _;
     shown = record {
+      marked = outside-marked;
       id = refl;
       interval = refl;
       bar = refl;
@@ -442,7 +514,16 @@ report-at-end stm (x ∷ xs) h = report-at-end (stateAfter stm x) xs (kept (isAc
 
 -- ---- messages
 
-pub messages-in : (stm : Stm) (state : State) → messagesIn (reportFor state stm) ≡ messagesOf (stm .brakes) (stm .feedback) (stm .test)
+-- bit 6 is told in DA only
+abbrev pub markedIn : State → Stm → Bool
+markedIn State.DE stm = false
+markedIn State.CS stm = false
+markedIn State.HS stm = false
+markedIn State.DA stm = shown stm .et
+markedIn State.FA stm = false
+
+pub messages-in : (stm : Stm) (state : State)
+    → messagesIn (reportFor state stm) ≡ messagesOf (stm .brakes) (stm .feedback) (stm .test) (markedIn state stm)
 unfolding reportOutside
 messages-in stm State.DE = refl
 messages-in stm State.CS = refl
@@ -477,8 +558,8 @@ unfolding reportOf messagesOf
 messages-tell stm =
     let test = stm .test in
     let bits =
-    six-bits (stm .brakes .drift) (stm .brakes .failed) (stm .feedback .fault) (isRunning (test .stage)) (hasPassed (test .result))
-    (hasFailed (test .result)) in
+    seven-bits (stm .brakes .drift) (stm .brakes .failed) (stm .feedback .fault) (isRunning (test .stage)) (hasPassed (test .result))
+    (hasFailed (test .result)) (markedIn (stm .control .state) stm) in
     rw (messages-in stm (stm .control .state))
     (record {
       drift = bits .first;

@@ -58,6 +58,7 @@ pub record EventDone (stm after : Stm) (command : List ℕ) : Type 0 where
   pub deletes : entersByGmd stm command ≡ true → (place : ℕ) → sectionAt place after .held ≡ false
   pub leaves : entersByGmd stm command ≡ false → after .track .sections ≡ stm .track .sections
   pub curves : after .track .curves ≡ stm .track .curves
+  pub records : after .track .records ≡ stm .track .records
   pub forty : after .track .forty ≡ stm .track .forty
   pub control : after .control ≡ stm .control
   pub train : after .train ≡ stm .train

@@ -16,7 +16,7 @@ use Rattle.rules.specs.Numbers.{bitNumber, isAccepted}
 use Rattle.rules.specs.Speeds.{vmaxOf}
 use Rattle.rules.specs.Table.{stands}
 use Rattle.rules.specs.Runs.{Sent, answerTo, stateAfter, isOf, freshens}
-use Rattle.rules.specs.History.{Tells, isSupervised, passesStop, Holds, intervalIn, dropIn}
+use Rattle.rules.specs.History.{Tells, isSupervised, passesStop, Supervises, intervalIn, dropIn}
 use Rattle.rules.specs.Braking.{orderedNow, releasableNow}
 use Rattle.rules.specs.declared.Code.{Code}
 use Rattle.rules.specs.declared.Cause.{Cause}
@@ -31,10 +31,11 @@ abbrev pub IsFast : Kind → ℕ → ℕ → Type 0
 IsFast Kind.SpeedTarget target v = 250 * (target + 10) ≤ 9 * v
 IsFast Kind.ExpectStop release v = 250 * release < 9 * v
 
--- a curve brakes in D, in E or in F, or in a later interval
+-- a curve, or a record that is one, brakes in D, in E or in F, or in a later interval
 pub record BrakesFrom (interval : Interval) (stm : Stm) : Type 0 where
+  pub et : Bool
   pub curve : Curve
-  pub holds : Holds (stm .track .curves) curve
+  pub holds : Supervises (stm .track) et curve
   pub late : rankOf interval ≤ rankOf (intervalIn stm curve)
   pub fast : IsFast (curve .kind) (curve .speed) (stm .kept .speed)
 

@@ -1,4 +1,4 @@
--- What a start and entering a state leave (01, "Answers", last paragraph; 02, F-6). Proved in proofs/.
+-- What a start and entering a state leave (01, "Answers", last paragraph; 02, F-6 and F-7). Proved in proofs/.
 use mathlib.Core.Path.{_≡_}
 use Prim.Native.Nat.{ℕ}
 use mathlib.Core.Bool.{true, false, _&&_, _||_}
@@ -12,7 +12,7 @@ use Rattle.rules.specs.Numbers.{isAccepted}
 use Rattle.rules.specs.Operands.{trainOf}
 use Rattle.rules.specs.Table.{stands}
 use Rattle.rules.specs.Runs.{Sent, answerTo, stateAfter, isOf}
-use Rattle.rules.specs.History.{firstOperand, isIn, isSupervised, curveAt, sectionAt}
+use Rattle.rules.specs.History.{firstOperand, isIn, isSupervised, curveAt, sectionAt, recordAt}
 use Rattle.rules.specs.declared.Code.{Code}
 use Rattle.rules.specs.declared.State.{State}
 use Rattle.rules.specs.declared.Cause.{Cause}
@@ -23,12 +23,14 @@ use Rattle.rules.specs.declared.Stage.{Stage}
 use Rattle.rules.specs.declared.Verdict.{Verdict}
 use Rattle.rules.specs.declared.Stm.{Stm}
 
--- no curve, no section, no 40, no pending 50 m; no cause, nothing noted, no hold, no check begun, nothing rolled, no brake fault
+-- no curve, no section, no 40, no pending 50 m, no record; no cause, nothing noted, no hold, no check begun, nothing rolled, no brake fault
 pub record HoldsNothing (stm : Stm) : Type 0 where
   pub curves : (place : ℕ) → curveAt place stm .held ≡ false
   pub sections : (place : ℕ) → sectionAt place stm .held ≡ false
   pub forty : stm .track .forty ≡ false
   pub overlap : stm .track .stay .overlap ≡ Overlap.Present
+  -- 02, F-7: "There are eight records; entering CS drops them"
+  pub records : (place : ℕ) → recordAt place stm .curve .held ≡ false
   pub causes : (cause : Cause) → stands (stm .brakes .causes) cause ≡ false
   pub aimed : stm .brakes .since .aimed ≡ false
   pub unexpected : stm .brakes .since .unexpected ≡ false

@@ -3,7 +3,7 @@
 -- the state that it finds.
 use Prim.Native.Nat.{ℕ, _+_, _*_}
 use mathlib.Core.Path.{_≡_}
-use mathlib.Core.Bool.{Bool, true, cond, not, _&&_, _||_}
+use mathlib.Core.Bool.{Bool, true, false, cond, not, _&&_, _||_}
 use mathlib.Core.List.{List, [], _∷_, foldr, List·Memᴰ}
 use lib.Dec.{eqb}
 use lib.Ieee.{Float, binary32, sub}
@@ -18,6 +18,8 @@ use Rattle.curve.specs.declared.Interval.{Interval}
 use Rattle.curve.specs.Lead.{leadsOf}
 use Rattle.interval.specs.Intervals.{intervalOf}
 use Rattle.areas.specs.Numbers.{areaNumber}
+use Rattle.records.specs.declared.EtRecord.{EtRecord}
+use Rattle.records.specs.Lives.{isEffective, freeRecord}
 use Rattle.rules.specs.Numbers.{isAccepted, isState}
 use Rattle.rules.specs.Operands.{twoAt, bitOf}
 use Rattle.curve.specs.Free.{freeCurve}
@@ -26,6 +28,7 @@ use Rattle.rules.specs.Runs.{Sent, answerTo, stateAfter, isOf}
 use Rattle.rules.specs.declared.Code.{Code}
 use Rattle.rules.specs.declared.State.{State}
 use Rattle.rules.specs.declared.Section.{Section}
+use Rattle.rules.specs.declared.Track.{Track}
 use Rattle.rules.specs.declared.Stm.{Stm}
 
 -- a test tells a fact
@@ -34,7 +37,7 @@ Tells test fact = (test ≡ true → fact) × (fact → test ≡ true)
 
 -- ---- the bytes of a command ("Commands")
 
--- the first operand: the id of 20 to 23, which stop of 30, the event of 50
+-- the first operand: the id of 20 to 23, 51 and 53, which stop of 30, the event of 50, the kind of signal of 52
 abbrev pub firstOperand : List ℕ → ℕ
 firstOperand command = byteAt (operandsOf command) 0
 
@@ -132,7 +135,10 @@ curveAt place stm = getD (stm .track .curves) place freeCurve
 abbrev pub sectionAt : ℕ → Stm → Section
 sectionAt place stm = getD (stm .track .sections) place freeSection
 
--- a place of the list holds this curve, or this section
+abbrev pub recordAt : ℕ → Stm → EtRecord
+recordAt place stm = getD (stm .track .records) place freeRecord
+
+-- a place of the list holds this curve, this section or this record
 pub record Holds (curves : List Curve) (curve : Curve) : Type 0 where
   pub place : List·Memᴰ curve curves
   pub held : curve .held ≡ true
@@ -140,6 +146,22 @@ pub record Holds (curves : List Curve) (curve : Curve) : Type 0 where
 pub record HoldsSection (sections : List Section) (section : Section) : Type 0 where
   pub place : List·Memᴰ section sections
   pub held : section .held ≡ true
+
+pub record HoldsRecord (ets : List EtRecord) (et : EtRecord) : Type 0 where
+  pub place : List·Memᴰ et ets
+  pub held : et .curve .held ≡ true
+
+-- 02, F-7: "Active and locked ones are curves in all that the members voted": what is supervised is a curve that a place holds or, with
+-- `et`, that of a record which is active or locked
+pub record RecordIs (ets : List EtRecord) (curve : Curve) : Type 0 where
+  pub et : EtRecord
+  pub holds : HoldsRecord ets et
+  pub effective : isEffective (et .condition) ≡ true
+  pub is : et .curve ≡ curve
+
+abbrev pub Supervises : Track → Bool → Curve → Type 0
+Supervises track false curve = Holds (track .curves) curve
+Supervises track true curve = RecordIs (track .records) curve
 
 -- "b is the full deceleration, soft with HALKA on", the leads and the F margin, at the last figures
 abbrev pub brakingIn : Stm → Braking

@@ -1,6 +1,6 @@
 -- Brake test A over runs (02, F-3). Proved in proofs/.
 use mathlib.Core.Path.{_≡_}
-use Prim.Native.Nat.{ℕ, _+_, _%_, _≤_, _<_}
+use Prim.Native.Nat.{ℕ, _+_, _/_, _%_, _≤_, _<_}
 use mathlib.Core.Bool.{Bool, true, false, cond, not, _&&_, _||_}
 use mathlib.Core.Logic.{_⊎_}
 use mathlib.Core.List.{List, [], _∷_, _++_, map}
@@ -256,6 +256,8 @@ pub record ReportsLike (r s : List ℕ) : Type 0 where
   pub others : (n : ℕ) → (eqb n 1 || eqb n 12) ≡ false → byteAt s n ≡ byteAt r n
   pub order : (stateIn r ≡ 0 → ⊥) → orderIn s ≡ orderIn r
   pub messages : messagesIn s % 8 ≡ messagesIn r % 8
+  -- 02, F-7: bit 6
+  pub marked : messagesIn s / 64 ≡ messagesIn r / 64
 
 -- an accepted 40 leaves all but the test
 abbrev pub AskingTouchesNothing : Type 0

@@ -10,13 +10,15 @@ use Rattle.wire.specs.Report.{permittedIn, orderIn, changeIn}
 use Rattle.curve.specs.declared.Curve.{Curve}
 use Rattle.interval.specs.Intervals.{rankOf}
 use Rattle.curve.specs.Claims.{Stricter}
+use Rattle.records.specs.declared.EtRecord.{EtRecord}
+use Rattle.records.specs.Lives.{isEffective}
 use Rattle.rules.specs.Numbers.{answerNumber, isRefused}
 use Rattle.rules.specs.Operands.{codeByte, numberOf, twoAt, bitOf}
-use Rattle.rules.specs.Places.{holdsCurve}
+use Rattle.rules.specs.Places.{holdsCurve, holdsRecord}
 use Rattle.rules.specs.Table.{stands}
 use Rattle.rules.specs.BrakeTest.{isRunning}
 use Rattle.rules.specs.Runs.{Sent, Moment, moments, isOf}
-use Rattle.rules.specs.History.{Holds, HoldsSection, intervalIn}
+use Rattle.rules.specs.History.{Holds, HoldsSection, HoldsRecord, intervalIn}
 use Rattle.rules.specs.Units.{IsUnit}
 use Rattle.rules.specs.declared.Code.{Code}
 use Rattle.rules.specs.declared.Cause.{Cause}
@@ -44,6 +46,12 @@ pub record TrainsCompared (train train′ : Train) : Type 0 where
   pub pressure : train′ .pressure ≡ train .pressure
   pub check : train′ .check ≡ train .check
 
+-- 02, F-7: "Active and locked ones are curves in all that the members voted": two records of one id are in one condition, and the second's d
+-- and target may be lower. That records which are no curves are equal, and anything of category and past in B, is not needed by the proof
+pub record RecordsCompared (et et′ : EtRecord) : Type 0 where
+  pub condition : et′ .condition ≡ et .condition
+  pub stricter : Stricter (et .curve) (et′ .curve)
+
 -- "By id, any of the second's curves may have a lower d, target or release speed"; "one section id may be new"; all else is equal.
 -- A place does not matter. The second may hold more: the proof does not need that it holds no other curve, or one section more only
 pub record TracksCompared (track track′ : Track) : Type 0 where
@@ -58,6 +66,11 @@ pub record TracksCompared (track track′ : Track) : Type 0 where
   pub forty : track′ .forty ≡ track .forty
   -- 02, F-6: "Two units compared have one area", one pending ground and one GMD speed
   pub stay : track′ .stay ≡ track .stay
+  -- records by id, as curves
+  pub recordIds : (id : ℕ) → holdsRecord id (track .records) ≡ true → holdsRecord id (track′ .records) ≡ true
+  pub records :
+      (et et′ : EtRecord) → HoldsRecord (track .records) et → HoldsRecord (track′ .records) et′ → et′ .curve .id ≡ et .curve .id
+      → RecordsCompared et et′
 
 -- "save the last command's operands and the kept report, in which the second permits no more and orders no less"
 pub record LastsCompared (last last′ : Last) : Type 0 where
@@ -139,6 +152,12 @@ pub record NotMilder (m n : Moment) : Type 0 where
   pub interval :
       (curve curve′ : Curve) → Holds (m .stm .track .curves) curve → Holds (n .stm .track .curves) curve′ → curve′ .id ≡ curve .id
       → rankOf (intervalIn (m .stm) curve) ≤ rankOf (intervalIn (n .stm) curve′)
+  -- 02, F-7: nor is a record that is a curve in both
+  pub records :
+      (et et′ : EtRecord) → HoldsRecord (m .stm .track .records) et → HoldsRecord (n .stm .track .records) et′
+      → et′ .curve .id ≡ et .curve .id → isEffective (et .condition) ≡ true
+      → (isEffective (et′ .condition) ≡ true)
+      × (rankOf (intervalIn (m .stm) (et .curve)) ≤ rankOf (intervalIn (n .stm) (et′ .curve)))
   pub order : orderIn (m .area) ≤ orderIn (n .area)
 
 -- "at every report not refused"

@@ -21,10 +21,13 @@ use Rattle.areas.specs.declared.LineSpeed.{LineSpeed}
 use Rattle.areas.specs.declared.Overlap.{Overlap}
 use Rattle.areas.specs.declared.Stay.{Stay}
 use Rattle.areas.specs.Numbers.{isArea}
+use Rattle.curve.specs.declared.Kind.{Kind}
+use Rattle.records.specs.declared.Condition.{Condition}
+use Rattle.records.specs.declared.EtRecord.{EtRecord}
 use Rattle.rules.specs.Numbers.{isState}
 use Rattle.rules.specs.Operands.{within, trainInRange, curveInRange, sectionInRange}
 use Rattle.places.specs.Places.{places}
-use Rattle.rules.specs.Places.{allOf}
+use Rattle.rules.specs.Places.{allOf, recordPlaces}
 use Rattle.rules.specs.Table.{anyStands, standsWith}
 use Rattle.rules.specs.Commands.{freshStm}
 use Rattle.rules.specs.Runs.{Sent, stateAfter, stateAtEnd}
@@ -65,6 +68,24 @@ isOverlapSound area (Overlap.Missing ground) = isArea Area.Full area && ltb grou
 
 abbrev pub isStaySound : Stay → Bool
 isStaySound stay = isLineSound (stay .area) (stay .line) && isOverlapSound (stay .area) (stay .overlap)
+
+-- 02, F-7: a place is free, or its record's figures are in range, it is a speed target, and its ground is below 100 m while it is undecided;
+-- a terminated record is not held
+abbrev pub isConditionSound : Condition → Bool
+isConditionSound (Condition.Undecided ground) = ltb ground 10000
+isConditionSound Condition.Terminated = false
+isConditionSound Condition.DefinitelyActive = true
+isConditionSound Condition.PreliminaryPassive = true
+isConditionSound Condition.PreliminaryActive = true
+isConditionSound Condition.Locked = true
+
+abbrev pub isTarget : Kind → Bool
+isTarget Kind.SpeedTarget = true
+isTarget Kind.ExpectStop = false
+
+abbrev pub isRecordSound : EtRecord → Bool
+isRecordSound et =
+    not (et .curve .held) || curveInRange (et .curve) && isTarget (et .curve .kind) && isConditionSound (et .condition)
 
 -- ---- no id twice
 
@@ -132,11 +153,14 @@ pub record IsUnit (stm : Stm) : Type 0 where
   -- the places
   pub curvePlaces : length (stm .track .curves) ≡ places
   pub sectionPlaces : length (stm .track .sections) ≡ places
+  -- 02, F-7: "There are eight records"
+  pub recordPlaces : length (stm .track .records) ≡ recordPlaces
   -- "figures in range", "distances, sums .. as commands can leave them"
   pub train : stm .control .started ≡ true → trainInRange (stm .train) ≡ true
   pub curves : allOf isCurveSound (stm .track .curves) ≡ true
   pub sections : allOf (isSectionSound (stm .train .length)) (stm .track .sections) ≡ true
   pub stay : isStaySound (stm .track .stay) ≡ true
+  pub records : allOf isRecordSound (stm .track .records) ≡ true
   pub speed : leb (stm .kept .speed) 10000 ≡ true
   pub feedback : Reached (stm .train) (stm .feedback)
   pub stage : StageSound (stm .train) (stm .control .state) (stm .test .stage)
@@ -155,6 +179,8 @@ pub record IsUnit (stm : Stm) : Type 0 where
   -- "no curve id and no section id held twice"
   pub curveIds : differ (λ curve. curve .held) (λ curve. curve .id) (stm .track .curves) ≡ true
   pub sectionIds : differ (λ section. section .held) (λ section. section .id) (stm .track .sections) ≡ true
+  -- 02, F-7: no id of records either, which "are a set apart"
+  pub recordIds : differ (λ et. et .curve .held) (λ et. et .curve .id) (stm .track .records) ≡ true
   -- "in DA, a reference pressure"
   pub reference : isState State.DA (stm .control .state) ≡ true → isSet (stm .feedback .phase) ≡ true
   -- the last command and its report

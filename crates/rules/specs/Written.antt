@@ -1,4 +1,4 @@
--- What the bytes of a report say of the unit (01, "Report"; 02, F-1, F-3 and F-4). Proved in proofs/.
+-- What the bytes of a report say of the unit (01, "Report"; 02, F-1, F-3, F-4 and F-7). Proved in proofs/.
 use mathlib.Core.Path.{_≡_}
 use Prim.Native.Nat.{ℕ, max, _≤_, _<_}
 use mathlib.Core.Bool.{Bool, true, false, cond, not, _||_}
@@ -23,7 +23,7 @@ use Rattle.rules.specs.Operands.{bitOf}
 use Rattle.rules.specs.Table.{stands}
 use Rattle.rules.specs.Runs.{Sent, answerTo, stateAfter, momentOf, stateAtEnd, noneAccepted, freshens}
 use Rattle.rules.specs.History.{Tells}
-use Rattle.rules.specs.History.{isIn, isSupervised, curveAt, Holds, brakingIn, intervalIn}
+use Rattle.rules.specs.History.{isIn, isSupervised, curveAt, Supervises, brakingIn, intervalIn}
 use Rattle.rules.specs.Claims.{UpToSources}
 use Rattle.rules.specs.Ground.{namesCurve}
 use Rattle.rules.specs.Columns.{isShort, IsFree}
@@ -80,7 +80,7 @@ permits stm curve = permittedOf curve (brakingIn stm .level) (brakingIn stm .lea
 pub record UpToPermitted (stm : Stm) (vmax n : ℕ) : Type 0 where
   pub limit : n ≤ vmax
   pub top : n ≤ 300
-  pub curves : (curve : Curve) → Holds (stm .track .curves) curve → n ≤ permits stm curve
+  pub curves : (et : Bool) (curve : Curve) → Supervises (stm .track) et curve → n ≤ permits stm curve
 
 -- ---- in DA
 
@@ -111,13 +111,20 @@ ReportInDA =
 
 -- ---- the shown curve
 
--- "latest computed interval, then lowest permitted speed, then lowest id"
-abbrev pub GoesFirst : Stm → Curve → Curve → Type 0
-GoesFirst stm curve other =
+-- 02, F-7: "at equal interval and permitted speed any curve is shown before any ET record"; "then lowest id"
+abbrev pub FirstAtEqual : Bool → Bool → ℕ → ℕ → Type 0
+FirstAtEqual false false id other = id ≤ other
+FirstAtEqual false true id other = Unit {0}
+FirstAtEqual true false id other = ⊥
+FirstAtEqual true true id other = id ≤ other
+
+-- "latest computed interval, then lowest permitted speed, then .."
+abbrev pub GoesFirst : Stm → Bool → Curve → Bool → Curve → Type 0
+GoesFirst stm et curve et′ other =
     (rankOf (intervalIn stm other) < rankOf (intervalIn stm curve))
     ⊎ ((rankOf (intervalIn stm other) ≡ rankOf (intervalIn stm curve))
     × ((permits stm curve < permits stm other)
-    ⊎ ((permits stm curve ≡ permits stm other) × (curve .id ≤ other .id))))
+    ⊎ ((permits stm curve ≡ permits stm other) × FirstAtEqual et et′ (curve .id) (other .id))))
 
 abbrev pub shownAsIn : Stm → Curve → Shown
 shownAsIn stm curve = shownOf (curve .past) (intervalIn stm curve)
@@ -134,17 +141,22 @@ pub record ByRow (past sufficient : Bool) (showing : Showing) (report : List ℕ
   pub mode : modeIn report ≡ modeNumber (row .mode)
 
 pub record Shows (stm : Stm) (report : List ℕ) : Type 0 where
+  pub et : Bool
   pub curve : Curve
-  pub holds : Holds (stm .track .curves) curve
-  pub first : (other : Curve) → Holds (stm .track .curves) other → GoesFirst stm curve other
+  pub holds : Supervises (stm .track) et curve
+  pub first : (et′ : Bool) (other : Curve) → Supervises (stm .track) et′ other → GoesFirst stm et curve et′ other
+  -- 02, F-7: "messages bit 6 marks a shown ET record"
+  pub marked : bitOf 6 (messagesIn report) ≡ et
   pub id : idIn report ≡ curve .id
   pub interval : shownIn report ≡ shownNumber (shownAsIn stm curve)
   pub colours : ByRow (isPastPermitted stm curve) (not (isShort stm)) (Showing.Curve (shownAsIn stm curve)) report
   -- 02, F-1: "four bytes at its end with this for the shown curve"
   pub change : changeIn report ≡ toChange curve (brakingIn stm) (stm .kept .speed)
 
--- "shown id (255 none); interval (0 none ..)", "No curve: bar and mode 0"; 02, F-1: "FFFFFFFF where none is shown"
+-- "shown id (255 none); interval (0 none ..)", "No curve: bar and mode 0"; 02, F-1: "FFFFFFFF where none is shown"; no
+-- ET record is marked
 pub record ShowsNone (report : List ℕ) : Type 0 where
+  pub marked : bitOf 6 (messagesIn report) ≡ false
   pub id : idIn report ≡ 255
   pub interval : shownIn report ≡ 0
   pub bar : barIn report ≡ 0
@@ -156,8 +168,8 @@ abbrev pub ShownInDA : Type 0
 ShownInDA =
     (stm : Stm) (x : Sent)
     → isAccepted (answerTo stm x) ≡ true → isIn State.DA (stateAfter stm x) ≡ true
-    → ((curve : Curve) → Holds (stateAfter stm x .track .curves) curve → Shows (stateAfter stm x) (momentOf stm x .area))
-    × (((curve : Curve) → Holds (stateAfter stm x .track .curves) curve → ⊥) → ShowsNone (momentOf stm x .area))
+    → ((et : Bool) (curve : Curve) → Supervises (stateAfter stm x .track) et curve → Shows (stateAfter stm x) (momentOf stm x .area))
+    × (((et : Bool) (curve : Curve) → Supervises (stateAfter stm x .track) et curve → ⊥) → ShowsNone (momentOf stm x .area))
 
 -- ---- outside DA
 
@@ -211,7 +223,7 @@ runsIn (Stage.Settling phase) = true
 runsIn (Stage.Braking steady reports) = true
 
 -- "bit 0 DRIFTBROMSFEL, 1 NÖDBROMSFEL, 2 TRYCKGIVARFEL at the last odometer report"; 02, F-3: "bit 3 running, bit 4 last test passed,
--- bit 5 last test failed"
+-- bit 5 last test failed". Of bit 6 `Shows` and `ShowsNone` tell
 pub record MessagesTell (stm : Stm) (messages : ℕ) : Type 0 where
   pub drift : bitOf 0 messages ≡ stm .brakes .drift
   pub failed : bitOf 1 messages ≡ stm .brakes .failed
@@ -219,7 +231,7 @@ pub record MessagesTell (stm : Stm) (messages : ℕ) : Type 0 where
   pub running : bitOf 3 messages ≡ runsIn (stm .test .stage)
   pub passed : Tells (bitOf 4 messages) (stm .test .result ≡ Verdict.Passed)
   pub failedTest : Tells (bitOf 5 messages) (stm .test .result ≡ Verdict.Failed)
-  pub most : messages < 64
+  pub most : messages < 128
 
 abbrev pub MessagesAreWritten : Type 0
 MessagesAreWritten =
