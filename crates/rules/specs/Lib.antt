@@ -33,3 +33,4 @@ pub mod Changes
 pub mod TwoRuns
 pub mod TestRuns
 pub mod AreaRuns
+pub mod RecordRuns
