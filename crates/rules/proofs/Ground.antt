@@ -55,14 +55,14 @@ ground-step stm x xs =
 -- ---- one curve
 
 module _ (curve : Curve) (held : curve .held ≡ true) where
-  lost-nothing : HasLost 0 curve curve
+  pub lost-nothing : HasLost 0 curve curve
   lost-nothing =
       record { held = held; id = refl; kind = refl; speed = refl; gradient = refl; distance = sym (sub-zero (curve .distance)) }
 
-  lost-moved : (moved : ℕ) → HasLost moved curve (movedBy curve moved)
+  pub lost-moved : (moved : ℕ) → HasLost moved curve (movedBy curve moved)
   lost-moved moved = record { held = held; id = refl; kind = refl; speed = refl; gradient = refl; distance = refl }
 
-lost-both : {a b c : Curve} {m n : ℕ} → HasLost m a b → HasLost n b c → HasLost (m + n) a c
+pub lost-both : {a b c : Curve} {m n : ℕ} → HasLost m a b → HasLost n b c → HasLost (m + n) a c
 lost-both {a} {b} {c} {m} {n} p q = record {
   held = q .held;
   id = q .id ∙ p .id;

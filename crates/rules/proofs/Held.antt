@@ -32,7 +32,7 @@ use Rattle.rules.proofs.After.{track-after, trackIn, reported-track, tr
 
 -- ---- the track after a command of this code
 
-track-by : (stm : Stm) (x : Sent) (code : Code) → isAccepted (answerTo stm x) ≡ true → isOf code (x .command) ≡ true
+pub track-by : (stm : Stm) (x : Sent) (code : Code) → isAccepted (answerTo stm x) ≡ true → isOf code (x .command) ≡ true
     → stateAfter stm x .track ≡ carriedOut code (operandsOf (x .command)) stm .track
 track-by stm x code e c =
     track-after stm x e

@@ -41,6 +41,7 @@ pub mod Keeps
 pub mod TestRuns
 pub mod Stays
 pub mod AreaRuns
+pub mod RecordLives
 pub mod OneArea
 pub mod TestAlone
 pub mod AtRecords
