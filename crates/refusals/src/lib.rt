@@ -1,4 +1,4 @@
-// The answer to every command: the refusals of 01 and of 02, F-3 and F-6, in their order, and the repeat.
+// The answer to every command: the refusals of 01 and of 02, F-3, F-6 and F-7, in their order, and the repeat.
 //
 // No public function has a `requires`: each is defined at every value of its parameters.
 ghost use mathlib.Core.Path.{_≡_};
@@ -12,11 +12,14 @@ ghost use Rattle.areas.specs.Rows.{isTaken};
 ghost use Rattle.rules.specs.declared.Answer.{Answer};
 ghost use Rattle.rules.specs.declared.Code.{Code};
 ghost use Rattle.rules.specs.Numbers.{codeOf, isCode};
-ghost use Rattle.rules.specs.Places.{holdsCurve, allCurvesHeld, holdsSection, standsSection, allSectionsHeld};
+ghost use Rattle.rules.specs.Places.{holdsCurve, allCurvesHeld, holdsSection, standsSection, allSectionsHeld, holdsRecord, allRecordsHeld, keepsRecord};
 ghost use Rattle.rules.specs.Operands.{codeByte, numberOf, eventIn};
 ghost use Rattle.rules.specs.Commands.{padded};
 ghost use Rattle.rules.specs.Refusals.{isPath, isAllowed, ordersDA, rule, firstOf, rulesFor, answerFor, answerOf};
 use areas::is_taken;
+use boards::all_records_held;
+use boards::holds_record;
+use boards::keeps_record;
 use brake_test::is_running;
 use encoding::fields::event_in;
 use encoding::fields::in_range;
@@ -100,6 +103,9 @@ fn is_allowed(state: State, code: Code, s: &[u8]) -> bool
         Code::BaliseError => da,
         Code::TestBrakes => true,
         Code::AreaEvent => moving,
+        Code::NewRecord => moving,
+        Code::SignalPassed => moving,
+        Code::EndRecord => moving,
     }
 }
 
@@ -111,7 +117,7 @@ fn orders_da(code: Code, s: &[u8]) -> bool
 
 // Whether the id to be ended isn't held, or its section is already ending.
 fn ends_nothing(track: Track, code: Code, id: u8) -> bool
-    ensures { λ r. ⌜ r ≡ (isCode Code.EndCurve code && not (holdsCurve id (track .curves)) || isCode Code.EndSection code && not (standsSection id (track .sections))) ⌝ }
+    ensures { λ r. ⌜ r ≡ (isCode Code.EndCurve code && not (holdsCurve id (track .curves)) || isCode Code.EndSection code && not (standsSection id (track .sections)) || isCode Code.EndRecord code && not (holdsRecord id (track .records))) ⌝ }
 {
     if is_code(Code::EndCurve, code) {
         let curves = track.curves;
@@ -120,6 +126,10 @@ fn ends_nothing(track: Track, code: Code, id: u8) -> bool
     if is_code(Code::EndSection, code) {
         let sections = track.sections;
         return !stands_section(id, sections);
+    }
+    if is_code(Code::EndRecord, code) {
+        let ets = track.records;
+        return !holds_record(id, ets);
     }
     false
 }
@@ -148,6 +158,28 @@ fn is_untaken(track: Track, code: Code, s: &[u8]) -> bool
     is_code(Code::AreaEvent, code) & !is_taken(area, event_in(s))
 }
 
+// Whether a new record's id finds all eight places held.
+fn finds_no_record_place(track: Track, code: Code, id: u8) -> bool
+    ensures { λ r. ⌜ r ≡ (isCode Code.NewRecord code && not (holdsRecord id (track .records)) && allRecordsHeld (track .records)) ⌝ }
+{
+    if is_code(Code::NewRecord, code) {
+        let ets = track.records;
+        return !holds_record(id, ets) & all_records_held(ets);
+    }
+    false
+}
+
+// Whether a repeater finds a record that it can't take the place of.
+fn repeats_nothing(track: Track, code: Code, id: u8) -> bool
+    ensures { λ r. ⌜ r ≡ (isCode Code.NewRecord code && keepsRecord id (track .records)) ⌝ }
+{
+    if is_code(Code::NewRecord, code) {
+        let ets = track.records;
+        return keeps_record(id, ets);
+    }
+    false
+}
+
 // Which refusals from 5 on apply, and whether the command is a repeat.
 struct Tests {
     unstarted: bool,
@@ -163,11 +195,13 @@ struct Tests {
     elsewhere: bool,
     running: bool,
     untaken: bool,
+    filled: bool,
+    kept: bool,
 }
 
-// The first of 9 to 16 that applies.
+// The first of 9 to 18 that applies.
 fn later_of(t: Tests) -> Answer
-    ensures { λ r. ⌜ r ≡ firstOf (rule (t .outside) Answer.OutOfRange ∷ rule (t .forbidden) Answer.NotAllowed ∷ rule (t .unset) Answer.NoReference ∷ rule (t .absent) Answer.NotHeld ∷ rule (t .full) Answer.AllHeld ∷ rule (t .elsewhere) Answer.OutsideDE ∷ rule (t .running) Answer.TestRunning ∷ rule (t .untaken) Answer.NotTaken ∷ []) ⌝ }
+    ensures { λ r. ⌜ r ≡ firstOf (rule (t .outside) Answer.OutOfRange ∷ rule (t .forbidden) Answer.NotAllowed ∷ rule (t .unset) Answer.NoReference ∷ rule (t .absent) Answer.NotHeld ∷ rule (t .full) Answer.AllHeld ∷ rule (t .elsewhere) Answer.OutsideDE ∷ rule (t .running) Answer.TestRunning ∷ rule (t .untaken) Answer.NotTaken ∷ rule (t .filled) Answer.NoRecordPlace ∷ rule (t .kept) Answer.NotSuperseded ∷ []) ⌝ }
 {
     if t.outside {
         return Answer::OutOfRange;
@@ -193,12 +227,18 @@ fn later_of(t: Tests) -> Answer
     if t.untaken {
         return Answer::NotTaken;
     }
+    if t.filled {
+        return Answer::NoRecordPlace;
+    }
+    if t.kept {
+        return Answer::NotSuperseded;
+    }
     Answer::Accepted
 }
 
-// The first that applies: 5 to 8, the repeat, and 9 to 16.
+// The first that applies: 5 to 8, the repeat, and 9 to 18.
 fn first_of(t: Tests) -> Answer
-    ensures { λ r. ⌜ r ≡ firstOf (rule (t .unstarted) Answer.NotStarted ∷ rule (t .zero) Answer.ZeroNumber ∷ rule (t .misnumbered) Answer.WrongNumber ∷ rule (t .failed) Answer.Failed ∷ rule (t .again) Answer.Again ∷ rule (t .outside) Answer.OutOfRange ∷ rule (t .forbidden) Answer.NotAllowed ∷ rule (t .unset) Answer.NoReference ∷ rule (t .absent) Answer.NotHeld ∷ rule (t .full) Answer.AllHeld ∷ rule (t .elsewhere) Answer.OutsideDE ∷ rule (t .running) Answer.TestRunning ∷ rule (t .untaken) Answer.NotTaken ∷ []) ⌝ }
+    ensures { λ r. ⌜ r ≡ firstOf (rule (t .unstarted) Answer.NotStarted ∷ rule (t .zero) Answer.ZeroNumber ∷ rule (t .misnumbered) Answer.WrongNumber ∷ rule (t .failed) Answer.Failed ∷ rule (t .again) Answer.Again ∷ rule (t .outside) Answer.OutOfRange ∷ rule (t .forbidden) Answer.NotAllowed ∷ rule (t .unset) Answer.NoReference ∷ rule (t .absent) Answer.NotHeld ∷ rule (t .full) Answer.AllHeld ∷ rule (t .elsewhere) Answer.OutsideDE ∷ rule (t .running) Answer.TestRunning ∷ rule (t .untaken) Answer.NotTaken ∷ rule (t .filled) Answer.NoRecordPlace ∷ rule (t .kept) Answer.NotSuperseded ∷ []) ⌝ }
 {
     if t.unstarted {
         return Answer::NotStarted;
@@ -252,6 +292,8 @@ fn judge(stm: Stm, command: &[u8], s: &[u8]) -> Answer
         elsewhere: tests & !is_state(State::DE, state),
         running: tests & is_running(stage),
         untaken: is_untaken(track, code, s),
+        filled: finds_no_record_place(track, code, id),
+        kept: repeats_nothing(track, code, id),
     })
 }
 

@@ -16,7 +16,7 @@ returns : tie.Need-returns
 returns c =
     let o = c .before .before .before in
     let first = sym (o .is-code .ensures) ∙ c .before .before .if1 .taken in
-    rw (c .holds-curve .ensures, first, other-code Code.EndCurve Code.EndSection _ first refl, or-false)
+    rw (c .holds-curve .ensures, first, other-code Code.EndCurve Code.EndSection _ first refl, other-code Code.EndCurve Code.EndRecord _ first refl, or-false, or-false)
 
 is-code-requires-2 : tie.Need-is-code-requires-2
 is-code-requires-2 c κs = tt
@@ -28,12 +28,28 @@ returns-2 : tie.Need-returns-2
 returns-2 c =
     let o = c .before .before .before in
     let first = sym (o .before .before .is-code .ensures) ∙ o .before .if1 .left in
-    rw (c .stands-section .ensures, first, sym (o .is-code2 .ensures) ∙ c .before .before .if2 .taken)
+    let second = sym (o .is-code2 .ensures) ∙ c .before .before .if2 .taken in
+    rw (c .stands-section .ensures, first, second, other-code Code.EndSection Code.EndRecord _ second refl, or-false)
+
+is-code-requires-3 : tie.Need-is-code-requires-3
+is-code-requires-3 c κs = tt
+
+holds-record-requires : tie.Need-holds-record-requires
+holds-record-requires c κs = tt
 
 returns-3 : tie.Need-returns-3
 returns-3 c =
-    let first = sym (c .before .before .before .is-code .ensures) ∙ c .before .before .if1 .left in
-    rw (first, sym (c .before .is-code2 .ensures) ∙ c .if2 .left)
+    let o = c .before .before .before in
+    let first = sym (o .before .before .before .before .is-code .ensures) ∙ o .before .before .before .if1 .left in
+    let second = sym (o .before .before .is-code2 .ensures) ∙ o .before .if2 .left in
+    rw (c .holds-record .ensures, first, second, sym (o .is-code3 .ensures) ∙ c .before .before .if3 .taken)
+
+returns-4 : tie.Need-returns-4
+returns-4 c =
+    let o = c .before .before in
+    let first = sym (o .before .before .before .is-code .ensures) ∙ o .before .before .if1 .left in
+    let second = sym (o .before .is-code2 .ensures) ∙ o .if2 .left in
+    rw (first, second, sym (c .before .is-code3 .ensures) ∙ c .if3 .left)
 
 pub ends-nothing-spec : {M : Type 1} → statement M
 ends-nothing-spec =
@@ -45,4 +61,7 @@ ends-nothing-spec =
     is-code-requires-2
     stands-section-requires
     returns-2
-    returns-3)
+    is-code-requires-3
+    holds-record-requires
+    returns-3
+    returns-4)

@@ -54,6 +54,15 @@ enum-told-11 c = search needs
 enum-told-12 : tie.Need-enum-told-12
 enum-told-12 c = search needs
 
+enum-told-13 : tie.Need-enum-told-13
+enum-told-13 c = search needs
+
+enum-told-14 : tie.Need-enum-told-14
+enum-told-14 c = search needs
+
+enum-told-15 : tie.Need-enum-told-15
+enum-told-15 c = search needs
+
 returns : tie.Need-returns
 returns c = rw (c .enum-told .given .1)
 
@@ -92,6 +101,15 @@ returns-11 c = rw (c .enum-told11 .given .1)
 returns-12 : tie.Need-returns-12
 returns-12 c = rw (c .enum-told12 .given .1, c .before .before .is-state2 .ensures, c .before .before .before .is-state .ensures)
 
+returns-13 : tie.Need-returns-13
+returns-13 c = rw (c .enum-told13 .given .1, c .before .before .is-state2 .ensures, c .before .before .before .is-state .ensures)
+
+returns-14 : tie.Need-returns-14
+returns-14 c = rw (c .enum-told14 .given .1, c .before .before .is-state2 .ensures, c .before .before .before .is-state .ensures)
+
+returns-15 : tie.Need-returns-15
+returns-15 c = rw (c .enum-told15 .given .1, c .before .before .is-state2 .ensures, c .before .before .before .is-state .ensures)
+
 pub is-allowed-spec : {M : Type 1} → statement M
 is-allowed-spec =
     tie.close
@@ -113,6 +131,9 @@ is-allowed-spec =
     enum-told-10
     enum-told-11
     enum-told-12
+    enum-told-13
+    enum-told-14
+    enum-told-15
     returns
     returns-2
     returns-3
@@ -124,4 +145,7 @@ is-allowed-spec =
     returns-9
     returns-10
     returns-11
-    returns-12)
+    returns-12
+    returns-13
+    returns-14
+    returns-15)

@@ -12,10 +12,10 @@ use Rattle.pressure.specs.Phases.{isSet}
 use Rattle.areas.specs.Rows.{isTaken}
 use Rattle.rules.specs.Numbers.{codeOf, isCode, isState}
 use Rattle.rules.specs.Operands.{codeByte, numberOf, eventIn, inRange}
-use Rattle.rules.specs.Places.{holdsCurve, allCurvesHeld, holdsSection, standsSection, allSectionsHeld}
+use Rattle.rules.specs.Places.{holdsCurve, allCurvesHeld, holdsSection, standsSection, allSectionsHeld, holdsRecord, allRecordsHeld, keepsRecord}
 use Rattle.rules.specs.BrakeTest.{isRunning}
 use Rattle.rules.specs.Commands.{padded}
-use Rattle.rules.specs.Refusals.{isRepeat, isNext, isAllowed, ordersDA, endsNothing, findsNoPlace, testsOutside, testsTwice, isUntaken, rule, firstOf, rulesFor}
+use Rattle.rules.specs.Refusals.{isRepeat, isNext, isAllowed, ordersDA, endsNothing, findsNoPlace, testsOutside, testsTwice, isUntaken, findsNoRecordPlace, repeatsNothing, rule, firstOf, rulesFor}
 use Rattle.rules.specs.declared.Answer.{Answer}
 use Rattle.rules.specs.declared.Code.{Code}
 use Rattle.rules.specs.declared.State.{State}
@@ -25,7 +25,7 @@ use Rattle.refusals.proofs.judge.Tie as tie
 
 -- the first rule that applies, by the values of the tests
 judged : (stm : Stm) (command s : List ℕ) {byte : ℕ} {code : Code} {id number : ℕ}
-    {start tests last next failed range allowed da set absent full de running untaken : Bool} {answer : Answer}
+    {start tests last next failed range allowed da set absent full de running untaken filled kept : Bool} {answer : Answer}
     → byte ≡ byteAt command 0
     → code ≡ codeOf byte
     → id ≡ byteAt s 0
@@ -40,12 +40,15 @@ judged : (stm : Stm) (command s : List ℕ) {byte : ℕ} {code : Code} {id numbe
     → da ≡ ordersDA code s
     → set ≡ isSet (stm .feedback .phase)
     → absent ≡ (isCode Code.EndCurve code && not (holdsCurve id (stm .track .curves))
-    || isCode Code.EndSection code && not (standsSection id (stm .track .sections)))
+    || isCode Code.EndSection code && not (standsSection id (stm .track .sections))
+    || isCode Code.EndRecord code && not (holdsRecord id (stm .track .records)))
     → full ≡ (isCode Code.NewCurve code && not (holdsCurve id (stm .track .curves)) && allCurvesHeld (stm .track .curves)
     || isCode Code.NewSection code && not (holdsSection id (stm .track .sections)) && allSectionsHeld (stm .track .sections))
     → de ≡ isState State.DE (stm .control .state)
     → running ≡ isRunning (stm .test .stage)
     → untaken ≡ (isCode Code.AreaEvent code && not (isTaken (stm .track .stay .area) (eventIn s)))
+    → filled ≡ (isCode Code.NewRecord code && not (holdsRecord id (stm .track .records)) && allRecordsHeld (stm .track .records))
+    → kept ≡ (isCode Code.NewRecord code && keepsRecord id (stm .track .records))
     → answer ≡ firstOf
     (rule (not (stm .control .started) && not start) Answer.NotStarted
     ∷ rule (eqb number 0) Answer.ZeroNumber
@@ -60,11 +63,13 @@ judged : (stm : Stm) (command s : List ℕ) {byte : ℕ} {code : Code} {id numbe
     ∷ rule (tests && not de) Answer.OutsideDE
     ∷ rule (tests && running) Answer.TestRunning
     ∷ rule untaken Answer.NotTaken
+    ∷ rule filled Answer.NoRecordPlace
+    ∷ rule kept Answer.NotSuperseded
     ∷ [])
     → answer ≡ firstOf (rulesFor stm command (codeOf (codeByte command)) s)
-unfolding isRepeat isNext endsNothing findsNoPlace testsOutside testsTwice isUntaken rulesFor
-judged stm command s e1 e2 e3 e4 e5 e6 e7 e8 e9 e10 e11 e12 e13 e14 e15 e16 e17 e18 e19 =
-    rw (e19, e18, e17, e16, e15, e14, e13, e12, e11, e10, e9, e8, e7, e6, e5, e4, e3, e2, e1)
+unfolding isRepeat isNext endsNothing findsNoPlace testsOutside testsTwice isUntaken findsNoRecordPlace repeatsNothing rulesFor
+judged stm command s e1 e2 e3 e4 e5 e6 e7 e8 e9 e10 e11 e12 e13 e14 e15 e16 e17 e18 e19 e20 e21 =
+    rw (e21, e20, e19, e18, e17, e16, e15, e14, e13, e12, e11, e10, e9, e8, e7, e6, e5, e4, e3, e2, e1)
 
 byte-at-requires : tie.Need-byte-at-requires
 byte-at-requires c κs = tt
@@ -120,12 +125,19 @@ is-running-requires c κs = tt
 is-untaken-requires : tie.Need-is-untaken-requires
 is-untaken-requires c κs = tt
 
+finds-no-record-place-requires : tie.Need-finds-no-record-place-requires
+finds-no-record-place-requires c κs = tt
+
+repeats-nothing-requires : tie.Need-repeats-nothing-requires
+repeats-nothing-requires c κs = tt
+
 first-of-requires : tie.Need-first-of-requires
 first-of-requires c κs = tt
 
 returns : tie.Need-returns
 returns c =
-    let o = c .before .before .before .before .before .before .before in
+    let n = c .before .before in
+    let o = n .before .before .before .before .before .before .before in
     let p = o .before .before .before .before .before .before in
     let q = p .before .before .before .before .before .before in
     judged (q .before .before .before .before .before .before .before .before .args .stm)
@@ -143,12 +155,14 @@ returns c =
     (o .before .before .in-range .ensures)
     (o .before .is-allowed .ensures)
     (o .orders-da .ensures)
-    (c .before .before .before .before .before .before .has-reference .ensures)
-    (c .before .before .before .before .before .ends-nothing .ensures)
-    (c .before .before .before .before .finds-no-place .ensures)
-    (c .before .before .before .is-state2 .ensures)
-    (c .before .before .is-running .ensures)
-    (c .before .is-untaken .ensures)
+    (n .before .before .before .before .before .before .has-reference .ensures)
+    (n .before .before .before .before .before .ends-nothing .ensures)
+    (n .before .before .before .before .finds-no-place .ensures)
+    (n .before .before .before .is-state2 .ensures)
+    (n .before .before .is-running .ensures)
+    (n .before .is-untaken .ensures)
+    (c .before .before .finds-no-record-place .ensures)
+    (c .before .repeats-nothing .ensures)
     (c .first-of .ensures)
 
 pub judge-spec : {M : Type 1} → statement M
@@ -173,5 +187,7 @@ judge-spec =
     is-state-requires-2
     is-running-requires
     is-untaken-requires
+    finds-no-record-place-requires
+    repeats-nothing-requires
     first-of-requires
     returns)

@@ -69,14 +69,45 @@ returns-8 c =
 returns-9 : tie.Need-returns-9
 returns-9 c =
     rw (
-      c .if8 .left,
-      c .before .if7 .left,
-      c .before .before .if6 .left,
-      c .before .before .before .if5 .left,
-      c .before .before .before .before .if4 .left,
-      c .before .before .before .before .before .if3 .left,
-      c .before .before .before .before .before .before .if2 .left,
-      c .before .before .before .before .before .before .before .if1 .left,
+      c .if9 .taken,
+      c .before .if8 .left,
+      c .before .before .if7 .left,
+      c .before .before .before .if6 .left,
+      c .before .before .before .before .if5 .left,
+      c .before .before .before .before .before .if4 .left,
+      c .before .before .before .before .before .before .if3 .left,
+      c .before .before .before .before .before .before .before .if2 .left,
+      c .before .before .before .before .before .before .before .before .if1 .left,
+    )
+
+returns-10 : tie.Need-returns-10
+returns-10 c =
+    rw (
+      c .if10 .taken,
+      c .before .if9 .left,
+      c .before .before .if8 .left,
+      c .before .before .before .if7 .left,
+      c .before .before .before .before .if6 .left,
+      c .before .before .before .before .before .if5 .left,
+      c .before .before .before .before .before .before .if4 .left,
+      c .before .before .before .before .before .before .before .if3 .left,
+      c .before .before .before .before .before .before .before .before .if2 .left,
+      c .before .before .before .before .before .before .before .before .before .if1 .left,
+    )
+
+returns-11 : tie.Need-returns-11
+returns-11 c =
+    rw (
+      c .if10 .left,
+      c .before .if9 .left,
+      c .before .before .if8 .left,
+      c .before .before .before .if7 .left,
+      c .before .before .before .before .if6 .left,
+      c .before .before .before .before .before .if5 .left,
+      c .before .before .before .before .before .before .if4 .left,
+      c .before .before .before .before .before .before .before .if3 .left,
+      c .before .before .before .before .before .before .before .before .if2 .left,
+      c .before .before .before .before .before .before .before .before .before .if1 .left,
     )
 
 pub later-of-spec : {M : Type 1} → statement M
@@ -91,4 +122,6 @@ later-of-spec =
     returns-6
     returns-7
     returns-8
-    returns-9)
+    returns-9
+    returns-10
+    returns-11)
