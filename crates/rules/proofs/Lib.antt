@@ -54,4 +54,5 @@ pub mod TwoUnits
 pub mod TwoReports
 pub mod TwoReadings
 pub mod TwoRuns
+pub mod PassiveAlone
 pub mod Computing
