@@ -42,6 +42,7 @@ pub mod TestRuns
 pub mod Stays
 pub mod AreaRuns
 pub mod RecordLives
+pub mod RecordRuns
 pub mod OneArea
 pub mod TestAlone
 pub mod AtRecords

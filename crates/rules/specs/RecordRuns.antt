@@ -34,7 +34,7 @@ use Rattle.rules.specs.declared.Stm.{Stm}
 abbrev pub secondOperand : List ℕ → ℕ
 secondOperand command = byteAt (operandsOf command) 1
 
--- 51's operands are in range: "command 20's widths and its ranges for kind 0"; −1 to −30 are the bytes from 255 down to 226
+-- 51's operands are in range: "command 20's widths and its ranges for kind 0"
 abbrev pub isRecordGiven : List ℕ → Bool
 isRecordGiven command =
     let s = operandsOf command in
@@ -42,7 +42,7 @@ isRecordGiven command =
     && leb (byteAt s 1) 3
     && leb (twoAt s 2) 10000
     && within 10 300 (twoAt s 4)
-    && (leb (byteAt s 6) 30 || leb 226 (byteAt s 6))
+    && leb (gradientOf (byteAt s 6) .size) 30
 
 -- ---- the answers
 
