@@ -14,7 +14,8 @@ use Rattle.places.specs.Places.{places}
 use Rattle.areas.specs.declared.Stay.{Stay}
 use Rattle.areas.specs.Stays.{freshStay}
 use Rattle.curve.specs.Free.{freeCurve}
-use Rattle.rules.specs.Places.{anyOf, freeSection}
+use Rattle.records.specs.Lives.{freeRecord}
+use Rattle.rules.specs.Places.{anyOf, freeSection, recordPlaces, noRecords}
 use Rattle.rules.specs.Runs.{moments}
 use Rattle.rules.specs.Units.{IsUnit}
 use Rattle.rules.specs.TwoRuns.{TrainsCompared, TracksCompared, Compared, Both, Faster, RefusedAlike, NoServiceFault, NoEmergencyFault, InGear, UnexpectedStopAlike, NoTestRuns, Presumed, Claimed, ClaimGiven}
@@ -41,8 +42,8 @@ held-first curve n (List·Memᴰ·tail m) h = absurd (none-held (λ x. x .held) 
 -- one curve in each, and sections in the second alone
 pub one-curve : (curve curve′ : Curve) (n m : ℕ) (sections : List Section) (forty : Bool) (stay : Stay)
     → curve′ .held ≡ curve .held → curve′ .id ≡ curve .id → curve′ .past ≡ curve .past → Stricter curve curve′
-    → TracksCompared (record { curves = curve ∷ replicate n freeCurve; sections = replicate m freeSection; forty = forty; stay = stay })
-    (record { curves = curve′ ∷ replicate n freeCurve; sections = sections; forty = forty; stay = stay })
+    → TracksCompared (record { curves = curve ∷ replicate n freeCurve; sections = replicate m freeSection; forty = forty; stay = stay; records = noRecords })
+    (record { curves = curve′ ∷ replicate n freeCurve; sections = sections; forty = forty; stay = stay; records = noRecords })
 unfolding anyOf
 one-curve curve curve′ n m sections forty stay held id past stricter = record {
   ids = λ i e. rw (held, id) e;
@@ -51,12 +52,14 @@ one-curve curve curve′ n m sections forty stay held id past stricter = record 
   sections = λ s h. absurd (none-held (λ x. x .held) freeSection refl m (h .place) (h .held));
   forty = refl;
   stay = refl;
+  recordIds = λ i e. e;
+  records = λ et et′ h h′ e. absurd (none-held (λ x. x .curve .held) freeRecord refl recordPlaces (h .place) (h .held));
 }
 
 -- the same curve in each, or none where it is a free place, and no section
 pub same-curve : (curve : Curve) (forty : Bool)
-    → TracksCompared (record { curves = curve ∷ replicate 15 freeCurve; sections = replicate places freeSection; forty = forty; stay = freshStay })
-    (record { curves = curve ∷ replicate 15 freeCurve; sections = replicate places freeSection; forty = forty; stay = freshStay })
+    → TracksCompared (record { curves = curve ∷ replicate 15 freeCurve; sections = replicate places freeSection; forty = forty; stay = freshStay; records = noRecords })
+    (record { curves = curve ∷ replicate 15 freeCurve; sections = replicate places freeSection; forty = forty; stay = freshStay; records = noRecords })
 same-curve curve forty = one-curve curve curve 15 places (replicate places freeSection) forty freshStay refl refl refl (same curve)
 
 -- a unit and itself

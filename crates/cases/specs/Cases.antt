@@ -14,7 +14,7 @@ use Rattle.rules.specs.Commands.{freshStm}
 use Rattle.rules.specs.Runs.{send, Moment, momentOf, stateAfter}
 use Rattle.rules.specs.History.{sum}
 use Rattle.cases.specs.Tables.{Command, start, state, report, curve, curveEnd, section, sectionEnd, stop, proceed}
-use Rattle.cases.specs.Tables.{baliseError, testBrakes, event, sent, further, halts, withReference}
+use Rattle.cases.specs.Tables.{baliseError, testBrakes, event, newRecord, signal, recordEnd, sent, further, halts, withReference}
 use Rattle.rules.specs.declared.Answer.{Answer}
 use Rattle.rules.specs.declared.Stm.{Stm}
 
@@ -853,6 +853,90 @@ areaCases =
     ∷ after (event 2 0 ∷ again (event 2 0) ∷ []) (answer 100 ∷ area 4 ∷ vmax 130 ∷ [])
     ∷ []
 
+-- ---- ET records (02, F-7)
+
+-- 96 m, and so many cm more
+abbrev pub past96m : ℕ → List Command
+past96m more = replicate 8 (travels 1200) ++ (travels more ∷ [])
+
+-- a record to 40 km/h whose target lies here: where it is a curve, 40 is permitted
+abbrev pub here : ℕ → ℕ → Command
+here id category = newRecord id category 0 40 0
+
+abbrev pub recordCases : List Case
+recordCases =
+    -- undecided it is "wholly ineffective"; rows a to d, H records by main and F records by distant signals, R 0 and G 1
+    after (here 3 1 ∷ []) (permitted 300 ∷ shows 255 0 0 0 ∷ messages 0 ∷ [])
+    ∷ after (here 3 1 ∷ signal 0 0 ∷ []) (permitted 40 ∷ shows 3 1 0 0 ∷ messages 64 ∷ causesAre [] ∷ [])
+    ∷ after (here 3 1 ∷ signal 0 1 ∷ []) (permitted 300 ∷ messages 0 ∷ [])
+    ∷ after (here 3 1 ∷ signal 0 1 ∷ recordEnd 3 ∷ []) (refused 12 ∷ [])
+    ∷ after (here 3 0 ∷ signal 1 0 ∷ []) (permitted 40 ∷ messages 64 ∷ [])
+    ∷ after (here 3 0 ∷ signal 1 1 ∷ []) (permitted 300 ∷ messages 0 ∷ [])
+    ∷ after (here 3 0 ∷ signal 1 1 ∷ recordEnd 3 ∷ []) (answer 0 ∷ [])
+    ∷ after (here 3 3 ∷ signal 0 1 ∷ []) (permitted 40 ∷ [])
+    ∷ after (here 3 2 ∷ signal 1 1 ∷ []) (permitted 40 ∷ [])
+    -- "A signal that isn't the record's controlling one leaves it undecided, and the first controlling one decides"
+    ∷ after (here 3 1 ∷ signal 1 0 ∷ []) (permitted 300 ∷ [])
+    ∷ after (here 3 1 ∷ signal 1 1 ∷ signal 0 0 ∷ []) (permitted 40 ∷ [])
+    ∷ after (here 3 1 ∷ signal 0 0 ∷ signal 0 1 ∷ []) (permitted 40 ∷ [])
+    ∷ after (here 3 0 ∷ signal 1 1 ∷ signal 1 0 ∷ []) (permitted 300 ∷ [])
+    ∷ after (here 3 0 ∷ signal 1 1 ∷ signal 0 0 ∷ past96m 1200) (permitted 300 ∷ [])
+    -- a 52 decides all that it controls
+    ∷ after (newRecord 3 0 0 60 0 ∷ newRecord 4 1 0 50 0 ∷ here 5 3 ∷ signal 0 0 ∷ []) (permitted 50 ∷ shows 4 1 0 0 ∷ [])
+    -- "For 100 m a record only loses ground"; then it is locked, in the move of that report, and judged in it
+    ∷ after (here 3 1 ∷ past96m 399) (permitted 300 ∷ messages 0 ∷ [])
+    ∷ after (here 3 1 ∷ past96m 400) (permitted 40 ∷ shows 3 1 0 0 ∷ messages 64 ∷ [])
+    ∷ after (here 3 1 ∷ past96m 399 ++ (report 2500 1 0 1000 0 ∷ [])) (causesAre (2 ∷ 4 ∷ []) ∷ order 3 ∷ shows 3 8 2 4 ∷ messages 64 ∷ [])
+    ∷ after (here 3 1 ∷ past96m 399 ++ (again (travels 399) ∷ [])) (answer 100 ∷ permitted 300 ∷ [])
+    -- from its board, and not from the last signal
+    ∷ after (here 3 1 ∷ past96m 300 ++ (signal 1 0 ∷ travels 100 ∷ [])) (permitted 40 ∷ [])
+    ∷ after (past96m 300 ++ (here 3 1 ∷ travels 100 ∷ [])) (permitted 300 ∷ [])
+    -- in HS and DA, and not before CS is left
+    ∷ after (state 1 ∷ state 2 ∷ here 3 1 ∷ past96m 399 ++ (state 3 ∷ travels 1 ∷ [])) (permitted 40 ∷ [])
+    -- d falls all the while: of 100 m, 96 m later 4 m are left, which is F at 36 km/h
+    ∷ after (newRecord 3 1 100 10 0 ∷ past96m 0 ++ (signal 0 0 ∷ report 1000 0 0 1000 0 ∷ [])) (shows 3 8 2 4 ∷ messages 64 ∷ [])
+    ∷ after (newRecord 3 0 100 10 0 ∷ signal 1 0 ∷ past96m 0 ++ (report 1000 0 0 1000 0 ∷ [])) (shows 3 8 2 4 ∷ messages 64 ∷ [])
+    -- "never of a passive, locked or undecided one"
+    ∷ after (here 3 1 ∷ here 3 1 ∷ []) (refused 18 ∷ [])
+    ∷ after (here 3 0 ∷ signal 1 1 ∷ here 3 1 ∷ []) (refused 18 ∷ [])
+    ∷ after (here 3 1 ∷ past96m 400 ++ (here 3 1 ∷ [])) (refused 18 ∷ [])
+    ∷ after (here 3 1 ∷ past96m 400 ++ (signal 0 1 ∷ [])) (permitted 40 ∷ [])
+    ∷ after (here 3 1 ∷ past96m 400 ++ (recordEnd 3 ∷ [])) (permitted 300 ∷ shows 255 0 0 0 ∷ [])
+    -- "a new undecided record in place of a definitely or preliminarily active one"
+    ∷ after (here 3 1 ∷ signal 0 0 ∷ here 3 0 ∷ []) (permitted 300 ∷ messages 0 ∷ [])
+    ∷ after (here 3 0 ∷ signal 1 0 ∷ newRecord 3 3 0 80 0 ∷ signal 0 1 ∷ []) (permitted 80 ∷ [])
+    -- a refused, a repeated and a 52 for nothing
+    ∷ after (here 3 1 ∷ again (here 3 1) ∷ []) (answer 100 ∷ [])
+    ∷ after (signal 1 1 ∷ []) (answer 0 ∷ permitted 300 ∷ [])
+    -- "There are eight records"; a terminated one leaves a place
+    ∷ after (here 1 1 ∷ here 2 0 ∷ here 3 0 ∷ here 4 0 ∷ here 5 0 ∷ here 6 0 ∷ here 7 0 ∷ here 8 0 ∷ []) (answer 0 ∷ [])
+    ∷ after (here 1 1 ∷ here 2 0 ∷ here 3 0 ∷ here 4 0 ∷ here 5 0 ∷ here 6 0 ∷ here 7 0 ∷ here 8 0 ∷ here 9 0 ∷ []) (refused 17 ∷ [])
+    ∷ after (here 1 1 ∷ here 2 0 ∷ here 3 0 ∷ here 4 0 ∷ here 5 0 ∷ here 6 0 ∷ here 7 0 ∷ here 8 0 ∷ here 8 0 ∷ []) (refused 18 ∷ [])
+    ∷ after (here 1 1 ∷ here 2 0 ∷ here 3 0 ∷ here 4 0 ∷ here 5 0 ∷ here 6 0 ∷ here 7 0 ∷ here 8 0 ∷ signal 0 1 ∷ here 9 0 ∷ []) (answer 0 ∷ [])
+    -- "ET ids are a set apart from curve ids"
+    ∷ after (curve 3 0 0 60 0 ∷ here 3 1 ∷ signal 0 0 ∷ curveEnd 3 ∷ []) (permitted 40 ∷ shows 3 1 0 0 ∷ messages 64 ∷ [])
+    ∷ after (curve 3 0 0 60 0 ∷ here 3 1 ∷ signal 0 0 ∷ recordEnd 3 ∷ []) (permitted 60 ∷ shows 3 1 0 0 ∷ messages 0 ∷ [])
+    ∷ after (curve 3 0 0 60 0 ∷ recordEnd 3 ∷ []) (refused 12 ∷ [])
+    ∷ after (here 3 1 ∷ curveEnd 3 ∷ []) (refused 12 ∷ [])
+    -- "at equal interval and permitted speed any curve is shown before any ET record", then lowest id; a lower permitted speed comes first
+    ∷ after (here 3 1 ∷ signal 0 0 ∷ curve 9 0 0 40 0 ∷ []) (shows 9 1 0 0 ∷ messages 0 ∷ [])
+    ∷ after (here 9 1 ∷ signal 0 0 ∷ curve 3 0 0 40 0 ∷ []) (shows 3 1 0 0 ∷ messages 0 ∷ [])
+    ∷ after (here 3 1 ∷ signal 0 0 ∷ curve 2 0 0 50 0 ∷ []) (shows 3 1 0 0 ∷ messages 64 ∷ [])
+    ∷ after (here 6 1 ∷ here 3 1 ∷ signal 0 0 ∷ []) (shows 3 1 0 0 ∷ messages 64 ∷ [])
+    -- past in B, which a repeater does not keep; messages bit 6 in DA only
+    ∷ after (here 3 1 ∷ signal 0 0 ∷ atSpeed 2500 0 ∷ halts ∷ []) (shows 3 2 2 2 ∷ messages 64 ∷ causesAre (2 ∷ 4 ∷ []) ∷ [])
+    ∷ after (here 3 1 ∷ signal 0 0 ∷ atSpeed 2500 0 ∷ here 3 1 ∷ signal 0 0 ∷ halts ∷ []) (shows 3 1 0 0 ∷ messages 64 ∷ [])
+    ∷ after (here 3 1 ∷ signal 0 0 ∷ state 4 ∷ []) (shows 255 0 0 0 ∷ messages 0 ∷ [])
+    -- "entering CS drops them"
+    ∷ after (here 3 1 ∷ signal 0 0 ∷ state 1 ∷ state 2 ∷ state 3 ∷ []) (permitted 300 ∷ shows 255 0 0 0 ∷ [])
+    ∷ after (here 3 1 ∷ signal 0 0 ∷ state 1 ∷ state 2 ∷ recordEnd 3 ∷ []) (refused 12 ∷ [])
+    -- 9 before 10 and 17; 10 before 12
+    ∷ after (newRecord 3 4 0 40 0 ∷ []) (refused 9 ∷ [])
+    ∷ after (state 1 ∷ newRecord 3 4 0 40 0 ∷ []) (refused 9 ∷ [])
+    ∷ after (state 1 ∷ here 3 1 ∷ []) (refused 10 ∷ [])
+    ∷ after (state 1 ∷ recordEnd 3 ∷ []) (refused 10 ∷ [])
+    ∷ []
+
 -- ---- all of them
 
 -- the cases of a unit that further commands lead to
@@ -877,7 +961,7 @@ slowInDA stm =
 
 abbrev pub fastInDA : Stm → List Bool
 fastInDA stm =
-    map (holds stm) (orderCases ++ softCases ++ areaCases)
+    map (holds stm) (orderCases ++ softCases ++ areaCases ++ recordCases)
     ++ holdAfter stm (replicate 3 (tooFast 1000)) serviceCases
     ++ holdAfter stm (atSpeed 2500 0 ∷ baliseError ∷ halts ∷ halts ∷ []) errorCases
     ++ holdAfter stm (stop 0 ∷ halts ∷ []) emergencyCases

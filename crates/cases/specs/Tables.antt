@@ -11,7 +11,7 @@ use lib.ListN.{take, drop, replicate}
 use Rattle.wire.specs.Numbers.{number}
 use Rattle.wire.specs.Bytes.{sameBytes}
 use Rattle.wire.specs.Form.{operandsOf}
-use Rattle.wire.specs.Report.{stateIn, areaIn}
+use Rattle.wire.specs.Report.{stateIn, messagesIn, areaIn}
 use Rattle.pressure.specs.declared.Feed.{Feed}
 use Rattle.curve.specs.declared.Kind.{Kind}
 use Rattle.curve.specs.declared.Direction.{Direction}
@@ -24,13 +24,15 @@ use Rattle.colours.specs.declared.Showing.{Showing}
 use Rattle.colours.specs.declared.Bar.{Bar}
 use Rattle.colours.specs.declared.Mode.{Mode}
 use Rattle.rules.specs.Numbers.{answerNumber, codeNumber, codeOf, stateNumber, stateOf, orderNumber, bitNumber}
-use Rattle.rules.specs.Operands.{readingOf}
+use Rattle.records.specs.declared.EtRecord.{EtRecord}
+use Rattle.records.specs.Numbers.{categoryNumber}
+use Rattle.rules.specs.Operands.{bitOf, readingOf}
 use Rattle.rules.specs.Places.{anyOf, allOf}
 use Rattle.rules.specs.Table.{causesFor, orderOf}
 use Rattle.rules.specs.Reports.{two, causesNumber}
 use Rattle.rules.specs.Commands.{freshStm}
 use Rattle.rules.specs.Runs.{send, Sent, momentOf, answerTo, stateAfter}
-use Rattle.rules.specs.History.{curveAt, sectionAt}
+use Rattle.rules.specs.History.{curveAt, sectionAt, recordAt}
 use Rattle.rules.specs.Written.{Strength, strengths}
 use Rattle.rules.specs.declared.Answer.{Answer}
 use Rattle.rules.specs.declared.Code.{Code}
@@ -99,6 +101,16 @@ testBrakes = command 0x40 []
 abbrev pub event : ℕ → ℕ → Command
 event which speed = command 0x50 (which ∷ two speed [])
 
+-- 02, F-7: id, category, distance in m, speed, gradient; kind of signal, route; id
+abbrev pub newRecord : ℕ → ℕ → ℕ → ℕ → ℕ → Command
+newRecord id category distance speed gradient = command 0x51 (id ∷ category ∷ two distance (two speed (gradient ∷ [])))
+
+abbrev pub signal : ℕ → ℕ → Command
+signal kind route = command 0x52 (kind ∷ route ∷ [])
+
+abbrev pub recordEnd : ℕ → Command
+recordEnd id = command 0x53 (id ∷ [])
+
 -- ---- units that commands lead to
 
 -- "numbered one more than the last accepted"
@@ -124,7 +136,7 @@ withReference x = further freshStm (x ∷ replicate 31 halts)
 abbrev pub started : Command
 started = start 0 100 400 700 400 30 20 20 30 10 15 50 380 13
 
--- DE, CS, HS, DA and FA, each reached from the one before; from HS on curve 5 and section 6 are held
+-- DE, CS, HS, DA and FA, each reached from the one before; from HS on curve 5, section 6 and record 8 are held
 abbrev pub eachAfter : Stm → List (List Command) → List Stm
 eachAfter stm [] = stm ∷ []
 eachAfter stm (x ∷ xs) = stm ∷ eachAfter (further stm x) xs
@@ -132,7 +144,7 @@ eachAfter stm (x ∷ xs) = stm ∷ eachAfter (further stm x) xs
 abbrev pub intoStates : List (List Command)
 intoStates =
     (state 1 ∷ [])
-    ∷ (state 2 ∷ curve 5 0 1000 40 0 ∷ section 6 90 ∷ [])
+    ∷ (state 2 ∷ curve 5 0 1000 40 0 ∷ section 6 90 ∷ newRecord 8 0 1000 40 0 ∷ [])
     ∷ (state 3 ∷ [])
     ∷ (state 4 ∷ [])
     ∷ []
@@ -144,7 +156,8 @@ answerIn stm x = answerNumber (answerTo stm (sent stm x))
 -- ---- codes and lengths
 
 -- "Codes and whole lengths", the columns Code and Bytes: start, state, odometer, curve, curve end, section, section end, stop
--- passed, proceed signal, balise error; 02, F-3: "New command 40 (5 bytes)"; 02, F-6: "A command 50 .. (8 bytes)"
+-- passed, proceed signal, balise error; 02, F-3: "New command 40 (5 bytes)"; 02, F-6: "A command 50 .. (8 bytes)"; 02, F-7: "A command
+-- 51 (12 bytes)", "A command 52 (7 bytes)", "A command 53 (6 bytes)"
 abbrev pub lengths : List (ℕ × ℕ)
 lengths =
     (0x01, 24)
@@ -159,6 +172,9 @@ lengths =
     ∷ (0x32, 5)
     ∷ (0x40, 5)
     ∷ (0x50, 8)
+    ∷ (0x51, 12)
+    ∷ (0x52, 7)
+    ∷ (0x53, 6)
     ∷ []
 
 -- the answer before any start to so many bytes, the first with this value and the others 0
@@ -189,7 +205,7 @@ areNumbered numbered things numbers = sameBytes (map numbered things) numbers
 
 unfoldable pub numbersTold : List Bool
 numbersTold =
-    -- "0 accepted. 100 again", and the refusals 1 to 13 in their order; 02, F-3: 14 and 15; 02, F-6: 16
+    -- "0 accepted. 100 again", and the refusals 1 to 13 in their order; 02, F-3: 14 and 15; 02, F-6: 16; 02, F-7: 17 and 18
     areNumbered answerNumber
     (Answer.Accepted
     ∷ Answer.Again
@@ -209,8 +225,10 @@ numbersTold =
     ∷ Answer.OutsideDE
     ∷ Answer.TestRunning
     ∷ Answer.NotTaken
+    ∷ Answer.NoRecordPlace
+    ∷ Answer.NotSuperseded
     ∷ [])
-    (0 ∷ 100 ∷ 1 ∷ 2 ∷ 3 ∷ 4 ∷ 5 ∷ 6 ∷ 7 ∷ 8 ∷ 9 ∷ 10 ∷ 11 ∷ 12 ∷ 13 ∷ 14 ∷ 15 ∷ 16 ∷ [])
+    (0 ∷ 100 ∷ 1 ∷ 2 ∷ 3 ∷ 4 ∷ 5 ∷ 6 ∷ 7 ∷ 8 ∷ 9 ∷ 10 ∷ 11 ∷ 12 ∷ 13 ∷ 14 ∷ 15 ∷ 16 ∷ 17 ∷ 18 ∷ [])
     -- the codes, in the table's order
     ∷ areNumbered codeNumber
     (Code.Start
@@ -225,6 +243,9 @@ numbersTold =
     ∷ Code.BaliseError
     ∷ Code.TestBrakes
     ∷ Code.AreaEvent
+    ∷ Code.NewRecord
+    ∷ Code.SignalPassed
+    ∷ Code.EndRecord
     ∷ [])
     (map (λ row. row .0) lengths)
     ∷ areNumbered (λ row. codeNumber (codeOf (row .0))) lengths (map (λ row. row .0) lengths)
@@ -333,15 +354,15 @@ statesWritten =
 abbrev pub stateWritten : Stm → Command → ℕ
 stateWritten stm x = stateIn (momentOf stm (sent stm x) .area)
 
--- the twelve codes in each state: "20–23 and 31 want HS or DA, 30 and 32 want DA"; 02, F-3: "14, test asked outside DE"; 02, F-6: "It
--- wants HS or DA"; 02 goes to FA here
+-- the fifteen codes in each state: "20–23 and 31 want HS or DA, 30 and 32 want DA"; 02, F-3: "14, test asked outside DE"; 02, F-6: "It
+-- wants HS or DA"; 02, F-7: "All three want HS or DA."; 02 goes to FA here
 abbrev pub taken : List (List ℕ)
 taken =
-    (0 ∷ 0 ∷ 0 ∷ 10 ∷ 10 ∷ 10 ∷ 10 ∷ 10 ∷ 10 ∷ 10 ∷ 0 ∷ 10 ∷ [])
-    ∷ (0 ∷ 0 ∷ 0 ∷ 10 ∷ 10 ∷ 10 ∷ 10 ∷ 10 ∷ 10 ∷ 10 ∷ 14 ∷ 10 ∷ [])
-    ∷ (0 ∷ 0 ∷ 0 ∷ 0 ∷ 0 ∷ 0 ∷ 0 ∷ 10 ∷ 0 ∷ 10 ∷ 14 ∷ 0 ∷ [])
-    ∷ (0 ∷ 0 ∷ 0 ∷ 0 ∷ 0 ∷ 0 ∷ 0 ∷ 0 ∷ 0 ∷ 0 ∷ 14 ∷ 0 ∷ [])
-    ∷ (0 ∷ 8 ∷ 8 ∷ 8 ∷ 8 ∷ 8 ∷ 8 ∷ 8 ∷ 8 ∷ 8 ∷ 8 ∷ 8 ∷ [])
+    (0 ∷ 0 ∷ 0 ∷ 10 ∷ 10 ∷ 10 ∷ 10 ∷ 10 ∷ 10 ∷ 10 ∷ 0 ∷ 10 ∷ 10 ∷ 10 ∷ 10 ∷ [])
+    ∷ (0 ∷ 0 ∷ 0 ∷ 10 ∷ 10 ∷ 10 ∷ 10 ∷ 10 ∷ 10 ∷ 10 ∷ 14 ∷ 10 ∷ 10 ∷ 10 ∷ 10 ∷ [])
+    ∷ (0 ∷ 0 ∷ 0 ∷ 0 ∷ 0 ∷ 0 ∷ 0 ∷ 10 ∷ 0 ∷ 10 ∷ 14 ∷ 0 ∷ 0 ∷ 0 ∷ 0 ∷ [])
+    ∷ (0 ∷ 0 ∷ 0 ∷ 0 ∷ 0 ∷ 0 ∷ 0 ∷ 0 ∷ 0 ∷ 0 ∷ 14 ∷ 0 ∷ 0 ∷ 0 ∷ 0 ∷ [])
+    ∷ (0 ∷ 8 ∷ 8 ∷ 8 ∷ 8 ∷ 8 ∷ 8 ∷ 8 ∷ 8 ∷ 8 ∷ 8 ∷ 8 ∷ 8 ∷ 8 ∷ 8 ∷ [])
     ∷ []
 
 abbrev pub eachCode : List Command
@@ -358,6 +379,9 @@ eachCode =
     ∷ baliseError
     ∷ testBrakes
     ∷ event 4 0
+    ∷ newRecord 7 0 1000 40 0
+    ∷ signal 0 0
+    ∷ recordEnd 8
     ∷ []
 
 abbrev pub toStates : List Command
@@ -403,6 +427,40 @@ abbrev pub areasIn : Stm → List Bool
 areasIn stm =
     answersAre eachEvent eventsTaken (inAreas stm)
     ++ zipWith (λ unit row. sameBytes (map (areaWritten unit) eachEvent) row) (inAreas stm) areasWritten
+
+-- ---- ET records (02, F-7)
+
+-- after a record of each category, RF, RH, GF and GH, and a signal: main R, main G, distant R, distant G, or none
+abbrev pub eachSignal : List (List Command)
+eachSignal = (signal 0 0 ∷ []) ∷ (signal 0 1 ∷ []) ∷ (signal 1 0 ∷ []) ∷ (signal 1 1 ∷ []) ∷ [] ∷ []
+
+abbrev pub eachCategory : List ℕ
+eachCategory = 0 ∷ 1 ∷ 2 ∷ 3 ∷ []
+
+-- "Hsi for route ≠ x" terminated, "= x" definitely active, "Fsi for route ≠ x" preliminary passive, "= x" preliminary active; u undecided.
+-- What tells them apart: the answer to its end, which is 12 where it is terminated; the answer to a repeater, which is 18 where the record
+-- is passive or undecided; and whether a record is shown, which is an active one. `terminated` is 1, `active` 2, `other` 3
+abbrev pub classesTold : List (List ℕ)
+classesTold =
+    (3 ∷ 3 ∷ 2 ∷ 3 ∷ 3 ∷ [])
+    ∷ (2 ∷ 1 ∷ 3 ∷ 3 ∷ 3 ∷ [])
+    ∷ (3 ∷ 3 ∷ 3 ∷ 2 ∷ 3 ∷ [])
+    ∷ (1 ∷ 2 ∷ 3 ∷ 3 ∷ 3 ∷ [])
+    ∷ []
+
+abbrev pub isMarked : Stm → Bool
+isMarked stm = bitOf 6 (messagesIn (momentOf stm (sent stm halts) .area))
+
+abbrev pub classOf : Stm → ℕ
+classOf stm =
+    cond (eqb (answerIn stm (recordEnd 9)) 12 && eqb (answerIn stm (newRecord 9 0 1000 40 0)) 0 && not (isMarked stm)) 1
+    (cond (eqb (answerIn stm (recordEnd 9)) 0 && eqb (answerIn stm (newRecord 9 0 1000 40 0)) 0 && isMarked stm) 2
+    (cond (eqb (answerIn stm (recordEnd 9)) 0 && eqb (answerIn stm (newRecord 9 0 1000 40 0)) 18 && not (isMarked stm)) 3 0))
+
+abbrev pub classesIn : Stm → List Bool
+classesIn stm =
+    zipWith (λ category row. sameBytes (map (λ passed. classOf (further stm (newRecord 9 category 1000 40 0 ∷ passed))) eachSignal) row)
+    eachCategory classesTold
 
 -- ---- where each operand lies
 
@@ -479,6 +537,9 @@ curveGiven stm x = curveAt 0 (stateAfter stm (sent stm x))
 abbrev pub sectionGiven : Stm → Command → Section
 sectionGiven stm x = sectionAt 0 (stateAfter stm (sent stm x))
 
+abbrev pub recordGiven : Stm → Command → EtRecord
+recordGiven stm x = recordAt 0 (stateAfter stm (sent stm x))
+
 -- figures that all differ, and of which no two bytes are alike: 260 is 0104, 515 is 0203, 1,541 is 0605, 1,287 is 0507, 277 is 0115
 abbrev pub operandsIn : Stm → List Bool
 operandsIn stm =
@@ -503,6 +564,9 @@ operandsIn stm =
     ∷ sameBytes (curveFields (curveGiven stm (curve 9 1 515 40 7))) (1 ∷ 9 ∷ 1 ∷ 51500 ∷ 40 ∷ 0 ∷ 7 ∷ 0 ∷ [])
     -- "id 1 ..; speed 2": it stands, and no ground is moved since its end
     ∷ sameBytes (sectionFigures (sectionGiven stm (section 9 260))) (1 ∷ 9 ∷ 260 ∷ 0 ∷ 0 ∷ [])
+    -- 02, F-7: "id, category .., target distance, speed, gradient, with command 20's widths"
+    ∷ sameBytes (curveFields (recordGiven stm (newRecord 9 2 515 260 0xF9) .curve)) (1 ∷ 9 ∷ 0 ∷ 51500 ∷ 260 ∷ 1 ∷ 7 ∷ 0 ∷ [])
+    ∷ sameBytes (map (λ category. categoryNumber (recordGiven stm (newRecord 9 category 515 260 7) .category)) eachCategory) eachCategory
     ∷ []
 
 -- ---- ranges
@@ -593,6 +657,17 @@ rangesIn stm =
     ++ map (rangeHolds stm (event 1 90)) (range 0 1 (1 ∷ []) (0 ∷ 2 ∷ []) ∷ range 1 2 (10 ∷ 300 ∷ []) (0 ∷ 9 ∷ 301 ∷ []) ∷ [])
     ++ map (rangeHolds stm (event 4 0))
     (range 0 1 (0 ∷ 2 ∷ 3 ∷ 4 ∷ 5 ∷ 6 ∷ []) (1 ∷ 7 ∷ 255 ∷ []) ∷ range 1 2 (0 ∷ []) (1 ∷ 10 ∷ 256 ∷ 300 ∷ []) ∷ [])
+    -- 02, F-7: "category (0 RF, 1 RH, 2 GF, 3 GH)", "command 20's widths and its ranges for kind 0"; "its kind (0 main, 1 distant) and
+    -- route (0 R, 1 G)"
+    ++ map (rangeHolds stm (newRecord 7 0 1000 40 0))
+    (range 0 1 (0 ∷ 254 ∷ []) (255 ∷ [])
+    ∷ range 1 1 (0 ∷ 1 ∷ 2 ∷ 3 ∷ []) (4 ∷ 255 ∷ [])
+    ∷ range 2 2 (0 ∷ 10000 ∷ []) (10001 ∷ [])
+    ∷ range 4 2 (10 ∷ 300 ∷ []) (9 ∷ 301 ∷ [])
+    ∷ range 6 1 (0 ∷ 30 ∷ 0xE2 ∷ 0xFF ∷ []) (31 ∷ 0x7F ∷ 0x80 ∷ 0xE1 ∷ [])
+    ∷ [])
+    ++ map (rangeHolds stm (signal 0 0)) (range 0 1 (0 ∷ 1 ∷ []) (2 ∷ 255 ∷ []) ∷ range 1 1 (0 ∷ 1 ∷ []) (2 ∷ 255 ∷ []) ∷ [])
+    ++ map (rangeHolds stm (recordEnd 8)) (range 0 1 (0 ∷ 254 ∷ []) (255 ∷ []) ∷ [])
 
 -- ---- all of them
 
@@ -604,6 +679,7 @@ tablesFrom stm =
     ++ rangesIn (further stm (state 3 ∷ []))
     ++ areasIn (further stm (state 1 ∷ state 2 ∷ []))
     ++ areasIn (further stm (state 3 ∷ []))
+    ++ classesIn (further stm (state 3 ∷ []))
 
 unfoldable pub tables : List Bool
 tables =
