@@ -27,7 +27,7 @@ use Rattle.records.specs.declared.EtRecord.{EtRecord}
 use Rattle.rules.specs.Numbers.{isState}
 use Rattle.rules.specs.Operands.{within, trainInRange, curveInRange, sectionInRange}
 use Rattle.places.specs.Places.{places}
-use Rattle.rules.specs.Places.{allOf, recordPlaces}
+use Rattle.rules.specs.Places.{allOf}
 use Rattle.rules.specs.Table.{anyStands, standsWith}
 use Rattle.rules.specs.Commands.{freshStm}
 use Rattle.rules.specs.Runs.{Sent, stateAfter, stateAtEnd}
@@ -154,7 +154,7 @@ pub record IsUnit (stm : Stm) : Type 0 where
   pub curvePlaces : length (stm .track .curves) ≡ places
   pub sectionPlaces : length (stm .track .sections) ≡ places
   -- 02, F-7: "There are eight records"
-  pub recordPlaces : length (stm .track .records) ≡ recordPlaces
+  pub recordPlaces : length (stm .track .records) ≡ 8
   -- "figures in range", "distances, sums .. as commands can leave them"
   pub train : stm .control .started ≡ true → trainInRange (stm .train) ≡ true
   pub curves : allOf isCurveSound (stm .track .curves) ≡ true
