@@ -1,11 +1,11 @@
 #!/usr/bin/env python3
-"""Makes the definitions of `rules`, `colours`, `areas` and `sheet` wrong by one token, one at a time, in a copy of the repository, and tells which wrong
+"""Makes the definitions of `rules`, `colours`, `areas`, `records` and `sheet` wrong by one token, one at a time, in a copy of the repository, and tells which wrong
 ones the checker still takes: no promise speaks against those. Those of `rules` are held to its promises and to the closed runs of `cases`.
 docs/DECISIONS.md lists them.
 
     python3 tests/wrong.py [--most N] [--seed S] [FILE..]
 
-FILE is a name in crates/rules/specs, as Table, or a crate and a name, as colours/Rows, areas/Rows or sheet/Columns; with none, every file of rules is tried. A change
+FILE is a name in crates/rules/specs, as Table, or a crate and a name, as colours/Rows, areas/Rows, records/Lives or sheet/Columns; with none, every file of rules is tried. A change
 is a figure one more or one less, a test, a truth value, a constructor or a field for another of its type, or a `not` left out. A change
 that no longer has a type is left out of the count. Each takes some seconds; at most N are tried, chosen by the seed S.
 """
@@ -18,7 +18,7 @@ import subprocess
 import tempfile
 
 RULES = ['Numbers', 'Operands', 'Places', 'Speeds', 'Hold', 'Table', 'Checks', 'Releases', 'BrakeTest', 'Odometer', 'Shows',
-         'colours/Numbers', 'colours/Rows', 'areas/Numbers', 'areas/Rows', 'areas/Stays', 'Reports', 'Commands', 'Refusals', 'Calls']
+         'colours/Numbers', 'colours/Rows', 'areas/Numbers', 'areas/Rows', 'areas/Stays', 'records/Numbers', 'records/Rows', 'records/Lives', 'Reports', 'Commands', 'Refusals', 'Calls']
 HELD = {'rules': 'cases'}  # the crate above, whose check proves this one too
 SWAPS = {'ltb': ['leb'], 'leb': ['ltb'], 'lt': ['le'], 'le': ['lt'], '&&': ['||'], '||': ['&&'], 'true': ['false'], 'false': ['true'],
          'min': ['Prim.Native.Nat.max'], 'not': ['']}
@@ -28,7 +28,7 @@ TOKEN = re.compile(r'0x[0-9A-F]+\b|\b\d+\b|\b(?:ltb|leb|lt|le|true|false|min|not
 def fields_and_variants():
     """field -> the fields of its struct that have its type; enum -> its variants."""
     fields, variants = {}, {}
-    for crate in ('rules', 'colours', 'areas', 'sheet', 'curve', 'pressure'):
+    for crate in ('rules', 'colours', 'areas', 'records', 'sheet', 'curve', 'pressure'):
         with open(f'crates/{crate}/src/lib.rt') as f:
             text = re.sub(r'//.*', '', f.read())
         for body in re.findall(r'pub struct \w+ \{(.*?)\n\}', text, re.S):
