@@ -1,5 +1,5 @@
 -- What is promised of one record. Assumes nothing.
-use mathlib.Core.Path.{_≡_, refl, sym, _∙_, ap, subst}
+use mathlib.Core.Path.{_≡_, refl, sym, _∙_, ap}
 use Prim.Native.Nat.{ℕ, _+_, _≤_, _<_}
 use native.Mathlib.Omega.{arith}
 use native.Mathlib.Nat.{zero-add, add-zero}
@@ -9,13 +9,10 @@ use mathlib.Core.List.{List, [], _∷_}
 use native.Mathlib.Decide.{decLe}
 use Rattle.curve.specs.declared.Curve.{Curve}
 use Rattle.curve.specs.Ground.{movedBy}
-use Rattle.records.specs.Numbers.{categoryNumber, signalNumber, isSignal, routeNumber, isRoute, routeFor, controllerOf}
+use Rattle.records.specs.Numbers.{isRoute, routeFor}
 use Rattle.records.specs.Rows.{classedBy, classedByNone}
-use Rattle.records.specs.Lives.{isUndecided, isEffective, isSuperseded, freeRecord, withCondition, withCurve, asCurve, coveredBy, movedRecord, classed, passedRecord}
-use Rattle.records.specs.Claims.{NumbersAreTold, rowNumber, controls, rowFor, Undecided, ByRow, ControllingDecides, OthersLeaveIt, DecidedStays, movedOver, sum, GroundIsLost, HundredMetres, GroundDecidesNothing, FreePlaceStays, EffectiveIsTold, SupersededIsTold}
-use Rattle.records.specs.declared.Category.{Category}
-use Rattle.records.specs.declared.Signal.{Signal}
-use Rattle.records.specs.declared.Route.{Route}
+use Rattle.records.specs.Lives.{isUndecided, isEffective, withCondition, withCurve, asCurve, coveredBy, classed}
+use Rattle.records.specs.Claims.{NumbersAreTold, rowNumber, Undecided, ByRow, ControllingDecides, OthersLeaveIt, DecidedStays, movedOver, sum, GroundIsLost, HundredMetres, GroundDecidesNothing, FreePlaceStays, EffectiveIsTold, SupersededIsTold}
 use Rattle.records.specs.declared.Condition.{Condition}
 use Rattle.records.specs.declared.EtRecord.{EtRecord}
 use Rattle.records.proofs.Told.{category-told, signal-told, route-told, controls-told, row-told, decided, moved-held, moved-free, moved-nothing, moved-on, covered-below, covered-past, covered-decided, passed-controlled, passed-other, is-controlled, free-uncontrolled, decided-uncontrolled, other-uncontrolled}

@@ -2,14 +2,14 @@
 use mathlib.Core.Path.{_≡_, refl, sym, _∙_, ap}
 use Prim.Native.Nat.{ℕ, _+_, _-_, _≤_, _<_}
 use native.Mathlib.Omega.{arith}
-use mathlib.Core.Bool.{Bool, true, false, cond, _&&_, and-false, false≢true}
+use mathlib.Core.Bool.{Bool, true, false, cond, _&&_, false≢true}
 use lib.Dec.{eqb}
 use borrow.Author.Tests.{le-leb, lt-leb}
 use Rattle.curve.specs.declared.Curve.{Curve}
 use Rattle.curve.specs.Ground.{movedBy}
 use Rattle.records.specs.Numbers.{categoryNumber, categoryOf, signalNumber, signalOf, isSignal, routeNumber, routeOf, isRoute, routeFor, controllerOf}
 use Rattle.records.specs.Rows.{classedBy, classedByNone}
-use Rattle.records.specs.Lives.{isUndecided, withCondition, withCurve, freeRecord, coveredBy, movedRecord, isControlled, classed, passedRecord}
+use Rattle.records.specs.Lives.{isUndecided, withCondition, withCurve, coveredBy, movedRecord, isControlled, classed, passedRecord}
 use Rattle.records.specs.Claims.{rowNumber, controls, isOwn, rowFor}
 use Rattle.records.specs.declared.Category.{Category}
 use Rattle.records.specs.declared.Signal.{Signal}

@@ -2,9 +2,8 @@
 use mathlib.Core.Path.{_≡_}
 use Prim.Native.Nat.{ℕ, _+_, _/_, _%_, _≤_, _<_}
 use mathlib.Core.Bool.{Bool, true, false, cond, _||_}
-use mathlib.Core.List.{List, [], _∷_, map, foldr}
+use mathlib.Core.List.{List, [], _∷_, foldr}
 use lib.Dec.{eqb}
-use Rattle.curve.specs.declared.Curve.{Curve}
 use Rattle.curve.specs.Ground.{movedBy}
 use Rattle.records.specs.Numbers.{categoryNumber, categoryOf, signalNumber, signalOf, routeNumber, routeOf}
 use Rattle.records.specs.Lives.{isEffective, isSuperseded, freeRecord, asCurve, movedRecord, passedRecord}

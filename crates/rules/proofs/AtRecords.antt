@@ -1,7 +1,7 @@
 -- What stands at a place of records after a command. Assumes nothing.
-use mathlib.Core.Path.{_≡_, refl, sym, _∙_, ap}
+use mathlib.Core.Path.{_≡_, refl, _∙_, ap}
 use Prim.Native.Nat.{ℕ}
-use mathlib.Core.Bool.{Bool, true, false, cond}
+use mathlib.Core.Bool.{true, cond}
 use mathlib.Core.List.{List, map}
 use lib.ListN.{getD}
 use Rattle.wire.specs.Numbers.{byteAt}
@@ -16,7 +16,7 @@ use Rattle.rules.specs.Numbers.{codeOf, stateOf, isAccepted}
 use Rattle.rules.specs.Operands.{codeByte, readingOf, recordOf, signalIn, routeIn}
 use Rattle.rules.specs.Places.{recordPlaces, emptyTrack, freshTrack, clearedTrack, passedTrack, isRecord, givenRecord, endedRecord, signalledRecords, movedTrack}
 use Rattle.rules.specs.Speeds.{brakingOf, judgedNow}
-use Rattle.rules.specs.Odometer.{keptOf, notedRecord, notedTrack}
+use Rattle.rules.specs.Odometer.{notedRecord, notedTrack}
 use Rattle.rules.specs.Commands.{freshWith, stopped, entered, carriedOut}
 use Rattle.rules.specs.Runs.{Sent, answerTo, stateAfter}
 use Rattle.rules.specs.History.{recordAt}

@@ -4,7 +4,7 @@ use Prim.Native.Nat.{ℕ, _+_, _≤_, _<_}
 use native.Mathlib.Omega.{arith}
 use native.Mathlib.Nat.{add-zero}
 use native.Mathlib.Decide.{decLe}
-use mathlib.Core.Bool.{Bool, true, false, cond, not, _&&_, _||_, false≢true, and-false}
+use mathlib.Core.Bool.{Bool, true, false, cond, _&&_, _||_}
 use mathlib.Core.Logic.{_⊎_, inl, inr}
 use mathlib.Core.List.{List, [], _∷_}
 use lib.Dec.{eqb, leb}
@@ -13,16 +13,14 @@ use borrow.Author.Tests.{leb-true, le-leb, lt-leb}
 use Rattle.wire.specs.Numbers.{byteAt}
 use Rattle.wire.specs.Form.{operandsOf}
 use Rattle.records.specs.declared.Condition.{Condition}
-use Rattle.records.specs.declared.Category.{Category}
-use Rattle.records.specs.declared.Signal.{Signal}
 use Rattle.records.specs.declared.EtRecord.{EtRecord}
 use Rattle.records.specs.Numbers.{categoryNumber, signalNumber, signalOf}
-use Rattle.records.specs.Lives.{isUndecided, freeRecord, coveredBy, movedRecord, passedRecord}
+use Rattle.records.specs.Lives.{freeRecord, coveredBy, movedRecord, passedRecord}
 use Rattle.records.specs.Claims.{rowNumber, controls}
 use Rattle.records.proofs.Claims.{others-leave-it, decided-stays}
 use Rattle.rules.specs.Numbers.{codeOf, stateOf, isAccepted, isCode, isState}
-use Rattle.rules.specs.Operands.{codeByte, twoAt, signalInRange, readingOf, recordOf, signalIn, routeIn, inRange}
-use Rattle.rules.specs.Places.{isRecord, givenRecord}
+use Rattle.rules.specs.Operands.{codeByte, signalInRange, readingOf, recordOf, signalIn, routeIn, inRange}
+use Rattle.rules.specs.Places.{givenRecord}
 use Rattle.rules.specs.Runs.{Sent, answerTo, stateAfter, stateAtEnd, noneAccepted, freshens}
 use Rattle.rules.specs.History.{firstOperand, movedOf, isMoving, groundOver, collected, recordAt}
 use Rattle.rules.specs.Ground.{HasLost}
@@ -32,7 +30,7 @@ use Rattle.rules.specs.declared.Code.{Code}
 use Rattle.rules.specs.declared.State.{State}
 use Rattle.rules.specs.declared.Reading.{Reading}
 use Rattle.rules.specs.declared.Stm.{Stm}
-use Rattle.rules.proofs.Tests.{impossible, both, neither, second-fails, cond-by}
+use Rattle.rules.proofs.Tests.{impossible, both, neither, second-fails}
 use Rattle.rules.proofs.Told.{code-is}
 use Rattle.rules.proofs.Answers.{passed, after-other}
 use Rattle.rules.proofs.AtPlaces.{elsewhere, given-stays}
@@ -284,5 +282,5 @@ undecided-until stm xs place ground held is below n =
       p .category,
       λ h. after ∙ ap (λ t. cond t Condition.Locked (Condition.Undecided (ground + groundOver stm xs))) (lt-leb 10000 (ground + groundOver stm xs) h),
       λ h. ap rowNumber (after
-      ∙ ap (λ t. cond t Condition.Locked (Condition.Undecided (ground + groundOver stm xs))) (le-leb 10000 (ground + groundOver stm xs) h)),
+          ∙ ap (λ t. cond t Condition.Locked (Condition.Undecided (ground + groundOver stm xs))) (le-leb 10000 (ground + groundOver stm xs) h)),
     )

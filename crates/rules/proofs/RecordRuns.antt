@@ -1,9 +1,9 @@
 -- ET records: how commands 51 to 53 are answered, what they do, and what changes a record. Assumes nothing.
 use mathlib.Core.Path.{_≡_, refl, sym, _∙_, ap, ap₂, subst}
-use Prim.Native.Nat.{ℕ, zero, suc, _+_, _*_, _≤_, _<_}
+use Prim.Native.Nat.{ℕ, zero, suc, _+_, _*_, _≤_}
 use native.Mathlib.Omega.{arith}
 use native.Mathlib.Decide.{decLe}
-use mathlib.Core.Bool.{Bool, true, false, cond, not, _&&_, _||_, false≢true, or-false}
+use mathlib.Core.Bool.{Bool, true, false, cond, not, _&&_, _||_}
 use mathlib.Core.Logic.{_⊎_, inl, inr}
 use mathlib.Core.List.{List, [], _∷_}
 use lib.Dec.{eqb, leb}
@@ -12,7 +12,6 @@ use borrow.Author.Tests.{leb-true, le-leb, lt-leb, eqb-true, eqb-false}
 use Rattle.wire.specs.Numbers.{byteAt}
 use Rattle.wire.specs.declared.form.Form.{Form}
 use Rattle.wire.specs.Form.{formOf, operandsOf}
-use Rattle.curve.specs.declared.Curve.{Curve}
 use Rattle.curve.specs.declared.Interval.{Interval}
 use Rattle.curve.specs.Deceleration.{levelOf}
 use Rattle.curve.specs.Boundary.{targetOf, isAbove, lineFor, isReached, isReachedF}
@@ -22,7 +21,7 @@ use Rattle.places.specs.Places.{noneJudged, judgedHere}
 use Rattle.places.proofs.Held.{held-judged}
 use Rattle.records.specs.declared.Condition.{Condition}
 use Rattle.records.specs.declared.EtRecord.{EtRecord}
-use Rattle.records.specs.Numbers.{categoryNumber, categoryOf, signalNumber, signalOf, routeNumber, routeOf}
+use Rattle.records.specs.Numbers.{categoryNumber, categoryOf, signalNumber, routeNumber, routeOf}
 use Rattle.records.specs.Lives.{isEffective, isSuperseded, freeRecord, asCurve, coveredBy, movedRecord, passedRecord}
 use Rattle.records.specs.Claims.{rowNumber, controls, rowFor, Undecided, ByRow}
 use Rattle.records.proofs.Claims.{controlling-decides, others-leave-it, decided-stays, free-place-stays, superseded-is-told}
@@ -35,11 +34,11 @@ use Rattle.rules.specs.Commands.{carriedOut}
 use Rattle.rules.specs.Refusals.{isStart, isRepeat, isNext, endsNothing, findsNoPlace, testsOutside, testsTwice, isUntaken, findsNoRecordPlace, repeatsNothing, firstOf, rulesFor, wholeAnswer, answerFor, answerOf}
 use Rattle.rules.specs.Calls.{callOf}
 use Rattle.rules.specs.Runs.{Sent, answerTo, stateAfter, isOf, freshens}
-use Rattle.rules.specs.History.{firstOperand, movedOf, isIn, isMoving, isSupervised, isReport, recordAt, brakingIn, intervalIn}
-use Rattle.rules.specs.Held.{holdsAt, Given}
+use Rattle.rules.specs.History.{firstOperand, isIn, isSupervised, isReport, recordAt, brakingIn, intervalIn}
+use Rattle.rules.specs.Held.{Given}
 use Rattle.rules.specs.Braking.{readingIn, measuredAt}
 use Rattle.rules.specs.TestRuns.{isJudged}
-use Rattle.rules.specs.RecordRuns.{secondOperand, isRecordGiven, holdsRecordAt, isHeld, isRepeatable, isFull, isTrackState, RecordAnswered, RecordIsAnswered, NewRecordIs, RecordIsGiven, RecordIsEnded, isDecidedBy, SignalIsPassed, LeavesRest, RecordsLeaveRest, touchesRecord, HundredMetres, RecordChangesBy, RecordPastIsNoted}
+use Rattle.rules.specs.RecordRuns.{secondOperand, isRecordGiven, holdsRecordAt, isHeld, isRepeatable, isFull, isTrackState, RecordIsAnswered, NewRecordIs, RecordIsGiven, RecordIsEnded, isDecidedBy, SignalIsPassed, LeavesRest, RecordsLeaveRest, touchesRecord, HundredMetres, RecordChangesBy, RecordPastIsNoted}
 use Rattle.rules.specs.declared.Answer.{Answer}
 use Rattle.rules.specs.declared.Code.{Code}
 use Rattle.rules.specs.declared.State.{State}
@@ -54,7 +53,7 @@ use Rattle.rules.proofs.AtPlaces.{given-to}
 use Rattle.rules.proofs.Held.{track-by}
 use Rattle.rules.proofs.Supervising.{as-itself, moved-record, moved-record-held}
 use Rattle.rules.proofs.AtRecords.{judging, notedFor, recordIn, record-after}
-use Rattle.rules.proofs.RecordLives.{decided-covered, untouched, signal-number, signal-given}
+use Rattle.rules.proofs.RecordLives.{untouched, signal-number, signal-given}
 
 -- ---- the answers
 

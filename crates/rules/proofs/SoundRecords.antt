@@ -2,9 +2,9 @@
 -- twice.
 use mathlib.Core.Path.{_≡_, refl, sym, subst}
 use Prim.Native.Nat.{ℕ, _+_}
-use mathlib.Core.Bool.{Bool, true, false, cond, _&&_}
+use mathlib.Core.Bool.{Bool, true, false, _&&_}
 use mathlib.Core.List.{List, map}
-use lib.Dec.{leb, ltb}
+use lib.Dec.{leb}
 use borrow.Author.Tests.{leb-false, lt-ltb}
 use Rattle.curve.specs.declared.Curve.{Curve}
 use Rattle.curve.specs.declared.Judged.{Judged}
@@ -20,7 +20,7 @@ use Rattle.rules.specs.Operands.{curveInRange}
 use Rattle.rules.specs.Places.{allOf, recordPlaces, noRecords, isRecord, givenRecord, endedRecord, signalledRecords}
 use Rattle.rules.specs.Odometer.{notedRecord, notedRecords}
 use Rattle.rules.specs.Units.{isConditionSound, isTarget, isRecordSound}
-use Rattle.rules.proofs.Tests.{impossible, and-left, and-right, and-both, if-mono, if-made, cond-by}
+use Rattle.rules.proofs.Tests.{impossible, and-left, and-right, and-both, if-mono, cond-by}
 use Rattle.rules.proofs.Holding.{Sound, map-sound, changed-sound, given-sound}
 use Rattle.rules.proofs.Supervising.{noted-at-places}
 

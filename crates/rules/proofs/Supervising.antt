@@ -11,7 +11,7 @@ use Rattle.curve.specs.Ground.{movedBy}
 use Rattle.records.specs.Lives.{isEffective, withCondition, withCurve, asCurve, coveredBy, movedRecord}
 use Rattle.rules.specs.Places.{allCurves}
 use Rattle.rules.specs.Odometer.{notedRecord, notedRecords}
-use Rattle.rules.specs.History.{Holds, HoldsRecord, RecordIs, Supervises}
+use Rattle.rules.specs.History.{Holds, RecordIs, Supervises}
 use Rattle.rules.specs.declared.Track.{Track}
 
 -- ---- one record

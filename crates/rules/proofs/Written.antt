@@ -1,5 +1,5 @@
 -- What the bytes of a report say of the unit. Assumes nothing.
-use mathlib.Core.Path.{_≡_, refl, sym, _∙_, ap, ap₂, subst}
+use mathlib.Core.Path.{_≡_, refl, sym, _∙_, ap, ap₂}
 use Prim.Native.Nat.{ℕ}
 use native.Mathlib.Omega.{arith}
 use native.Mathlib.Decide.{decLt}
@@ -55,14 +55,14 @@ use Rattle.rules.specs.declared.Last.{Last}
 use Rattle.rules.specs.declared.Stm.{Stm}
 use Rattle.rules.proofs.Answers.{after-accepted, after-other}
 use Rattle.rules.proofs.Once.{answer-writes-report}
-use Rattle.rules.proofs.Tests.{impossible, both, and-both, zip-self}
+use Rattle.rules.proofs.Tests.{impossible, both, and-both}
 use Rattle.rules.proofs.Told.{state-is}
 use Rattle.rules.proofs.Ordering.{doneBy}
 use Rattle.rules.proofs.Monotone.{any-in, any-from}
 use Rattle.rules.proofs.Claims.{not-lower-told, over-first, held-one, vmax-is-least, permitted-is-least, shown-is-first}
 use Rattle.rules.proofs.Columns.{listed, free-in, tells-by}
 use Rattle.rules.proofs.Bits.{bit-stands, twelve-bits, order-strongest, seven-bits, two-bits}
-use Rattle.rules.proofs.Supervising.{record-in, among-all, from-all, as-itself, as-held}
+use Rattle.rules.proofs.Supervising.{among-all, from-all, as-itself, as-held}
 
 -- ---- the report that is written is the unit's
 
@@ -411,6 +411,7 @@ shows-none stm e = record {
   colours = λ past sufficient. record { row = _; alone = refl; bar = rw e; mode = rw e };
   change = four-read _ _ ∙ rw e;
 }
+
 pub shown-in-da : ShownInDA
 shown-in-da stm x e d =
     let after = stateAfter stm x in
