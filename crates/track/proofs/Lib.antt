@@ -1,2 +1,2 @@
-mod Loops
-mod Showing
+pub mod Showing
+pub mod Judging

@@ -2,30 +2,11 @@
 ghost use mathlib.Core.Path.{_≡_};
 ghost use mathlib.Core.Bool.{cond};
 ghost use mathlib.Core.List.{map};
-ghost use Rattle.rules.specs.Places.{placed, freeCurve, isCurve, holdsCurve, allCurvesHeld, withPast, replacedCurve, givenCurve, endedCurve};
+ghost use Rattle.curve.specs.Free.{freeCurve};
+ghost use Rattle.rules.specs.Places.{placed, isCurve, holdsCurve, allCurvesHeld, withPast, replacedCurve, givenCurve, endedCurve};
 use curve::Curve;
-use curve::Direction;
-use curve::Gradient;
-use curve::Kind;
+use curve::free_curve;
 use places::PLACES;
-
-// A place that holds no curve.
-pub fn free_curve() -> Curve
-    ensures { λ r. ⌜ r ≡ freeCurve ⌝ }
-{
-    Curve {
-        held: false,
-        id: 0,
-        kind: Kind::SpeedTarget,
-        distance: 0,
-        speed: 0,
-        gradient: Gradient {
-            direction: Direction::Up,
-            size: 0,
-        },
-        past: false,
-    }
-}
 
 // Whether this place holds the id.
 fn is_curve(id: u8, curve: Curve) -> bool

@@ -1,14 +1,24 @@
 // The shown curve, and how far to its next change.
 ghost use mathlib.Core.Path.{_≡_};
+ghost use mathlib.Core.Bool.{true, false};
+ghost use mathlib.Core.List.{map, zipWith};
+ghost use lib.ListN.{drop};
+ghost use Rattle.places.specs.Places.{places};
+ghost use Rattle.records.specs.Lives.{asCurve};
 ghost use Rattle.rules.specs.Reports.{changeOf};
-ghost use Rattle.rules.specs.Shows.{noCandidate, isLower, goesBefore, chosenOf, chosen, shownAs, showingOf};
-use crate::curves::free_curve;
+ghost use Rattle.rules.specs.Shows.{candidate, noCandidate, setNumber, isLower, goesBefore, chosenOf, chosenFrom, shownAs, showingOf};
+ghost use Rattle.track.specs.Among.{chosenAmong};
 use crate::whole::braking_of;
+use boards::as_curve;
 use colours::Showing;
 use curve::Curve;
 use curve::Judged;
 use curve::Shown;
+use curve::free_curve;
+use places::CURVES;
 use places::PLACES;
+use records::EtRecord;
+use records::RECORDS;
 use rules::Candidate;
 use rules::Kept;
 use rules::Train;
@@ -17,6 +27,7 @@ fn no_candidate() -> Candidate
     ensures { λ r. ⌜ r ≡ noCandidate ⌝ }
 {
     Candidate {
+        et: false,
         curve: free_curve(),
         judged: places::none_judged(),
     }
@@ -29,7 +40,14 @@ fn is_lower(x: u16, y: u16, then: bool) -> bool
     (x < y) | ((x == y) & then)
 }
 
-// Latest computed interval, then lowest permitted speed, then lowest id.
+// A curve is shown before a record.
+fn set_number(et: bool) -> u16
+    ensures { λ r. ⌜ r ≡ setNumber et ⌝ }
+{
+    if et { 1 } else { 0 }
+}
+
+// Latest computed interval, then lowest permitted speed, then a curve, then lowest id.
 fn goes_before(x: Candidate, y: Candidate) -> bool
     ensures { λ r. ⌜ r ≡ goesBefore x y ⌝ }
 {
@@ -42,7 +60,11 @@ fn goes_before(x: Candidate, y: Candidate) -> bool
     is_lower(
         interval::rank_of(iy) as u16,
         interval::rank_of(ix) as u16,
-        is_lower(jx.permitted, jy.permitted, cx.id < cy.id),
+        is_lower(
+            jx.permitted,
+            jy.permitted,
+            is_lower(set_number(x.et), set_number(y.et), cx.id < cy.id),
+        ),
     )
 }
 
@@ -59,17 +81,56 @@ fn chosen_of(best: Candidate, next: Candidate) -> Candidate
     }
 }
 
-// The shown curve, or none.
-pub fn chosen(curves: [Curve; PLACES], judged: [Judged; PLACES]) -> Candidate
-    ensures { λ r. ⌜ r ≡ chosen curves judged ⌝ }
+// The shown one of the curves, or none.
+fn chosen_curve(curves: [Curve; PLACES], judged: [Judged; CURVES]) -> Candidate
+    ensures { λ r. ⌜ r ≡ chosenFrom noCandidate (zipWith (candidate false) curves judged) ⌝ }
 {
     let mut best = no_candidate();
     for i in 0..PLACES {
         let curve = curves[i];
         let j = judged[i];
-        best = chosen_of(best, Candidate { curve, judged: j });
+        best = chosen_of(
+            best,
+            Candidate {
+                et: false,
+                curve,
+                judged: j,
+            },
+        );
     }
     best
+}
+
+// The shown one of this and the records.
+fn chosen_on(shown: Candidate, ets: [EtRecord; RECORDS], judged: [Judged; CURVES]) -> Candidate
+    ensures { λ r. ⌜ r ≡ chosenFrom shown (zipWith (candidate true) (map asCurve ets) (drop places judged)) ⌝ }
+{
+    let mut best = shown;
+    for i in 0..RECORDS {
+        let et = ets[i];
+        let at = PLACES + i;
+        let j = judged[at];
+        best = chosen_of(
+            best,
+            Candidate {
+                et: true,
+                curve: as_curve(et),
+                judged: j,
+            },
+        );
+    }
+    best
+}
+
+// The shown one, or none: of the curves and the records, by what all that may be curves say.
+pub fn chosen(
+    curves: [Curve; PLACES],
+    records: [EtRecord; RECORDS],
+    judged: [Judged; CURVES],
+) -> Candidate
+    ensures { λ r. ⌜ r ≡ chosenAmong curves records judged ⌝ }
+{
+    chosen_on(chosen_curve(curves, judged), records, judged)
 }
 
 // The shown curve's interval as shown.

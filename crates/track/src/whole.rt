@@ -3,9 +3,9 @@ ghost use mathlib.Core.Path.{_≡_};
 ghost use Prim.Native.Nat.{min};
 ghost use mathlib.Core.Bool.{cond};
 ghost use mathlib.Core.List.{map, foldr};
-ghost use Rattle.rules.specs.Places.{noSections, emptyTrack, freshTrack, clearedTrack, withCurves, withSections, withForty, passedTrack, movedTrack};
+ghost use Rattle.rules.specs.Places.{noSections, emptyTrack, freshTrack, clearedTrack, allCurves, withCurves, withSections, withForty, withRecords, passedTrack, movedTrack};
+ghost use Rattle.track.specs.Among.{notedAmong};
 ghost use Rattle.rules.specs.Speeds.{brakingOf, judgedNow, sectionSpeed, stopSpeed, vmaxOf, permittedSpeed};
-use crate::curves::free_curve;
 use crate::sections::free_section;
 use crate::sections::move_sections;
 use areas::Event;
@@ -16,10 +16,17 @@ use areas::covered_stay;
 use areas::deletes_sections;
 use areas::fresh_stay;
 use areas::passed_stay;
+use boards::move_records;
+use boards::no_records;
+use boards::note_records;
 use curve::Braking;
 use curve::Curve;
 use curve::Judged;
+use curve::free_curve;
+use places::CURVES;
 use places::PLACES;
+use records::EtRecord;
+use records::RECORDS;
 use rules::Kept;
 use rules::Section;
 use rules::Track;
@@ -32,7 +39,7 @@ fn no_sections() -> [Section; PLACES]
     [section; PLACES]
 }
 
-// No curve, no section, no 40, in this stay.
+// No curve, no section, no 40, no record, in this stay.
 fn empty_track(stay: Stay) -> Track
     ensures { λ r. ⌜ r ≡ emptyTrack stay ⌝ }
 {
@@ -42,6 +49,7 @@ fn empty_track(stay: Stay) -> Track
         sections: no_sections(),
         forty: false,
         stay,
+        records: no_records(),
     }
 }
 
@@ -84,6 +92,14 @@ pub fn with_forty(track: Track, forty: bool) -> Track
     next
 }
 
+pub fn with_records(track: Track, ets: [EtRecord; RECORDS]) -> Track
+    ensures { λ r. ⌜ r ≡ withRecords track ets ⌝ }
+{
+    let mut next = track;
+    next.records = ets;
+    next
+}
+
 // The sections that are left: none where all are deleted.
 fn sections_left(deleted: bool, sections: [Section; PLACES]) -> [Section; PLACES]
     ensures { λ r. ⌜ r ≡ cond deleted noSections sections ⌝ }
@@ -98,11 +114,13 @@ pub fn passed_track(event: Event, speed: u16, track: Track) -> Track
     let curves = track.curves;
     let sections = track.sections;
     let stay = track.stay;
+    let records = track.records;
     Track {
         curves,
         sections: sections_left(deletes_sections(event, stay), sections),
         forty: track.forty,
         stay: passed_stay(event, speed, stay),
+        records,
     }
 }
 
@@ -113,11 +131,13 @@ pub fn moved_track(length: u16, moved: u16, track: Track) -> Track
     let curves = track.curves;
     let sections = track.sections;
     let stay = track.stay;
+    let records = track.records;
     Track {
         curves: places::move_all(curves, moved),
         sections: move_sections(length, moved, sections),
         forty: track.forty,
         stay: covered_stay(moved, stay),
+        records: move_records(moved, records),
     }
 }
 
@@ -133,11 +153,30 @@ pub fn braking_of(train: Train, halka: bool) -> Braking
     }
 }
 
+// All that may be curves: the curves, and the records as curves.
+pub fn all_curves(track: Track) -> [Curve; CURVES]
+    ensures { λ r. ⌜ r ≡ allCurves track ⌝ }
+{
+    let curves = track.curves;
+    let records = track.records;
+    boards::all_curves(curves, records)
+}
+
 // What every curve says at the last odometer figures.
-pub fn judge_now(train: Train, kept: Kept, curves: [Curve; PLACES]) -> [Judged; PLACES]
+pub fn judge_now(train: Train, kept: Kept, curves: [Curve; CURVES]) -> [Judged; CURVES]
     ensures { λ r. ⌜ r ≡ judgedNow train kept curves ⌝ }
 {
     places::judge_all(curves, braking_of(train, kept.halka), kept.speed)
+}
+
+// The track with every past in B noted, by what all that may be curves say.
+pub fn note_track(track: Track, judged: [Judged; CURVES]) -> Track
+    ensures { λ r. ⌜ r ≡ notedAmong track judged ⌝ }
+{
+    let curves = track.curves;
+    let records = track.records;
+    let next = with_curves(track, places::note_all(curves, judged));
+    with_records(next, note_records(records, judged))
 }
 
 fn lower(x: u16, y: u16) -> u16
@@ -186,7 +225,7 @@ pub fn vmax_of(train: Train, track: Track) -> u16
     )
 }
 
-pub fn permitted_speed(vmax: u16, judged: [Judged; PLACES]) -> u16
+pub fn permitted_speed(vmax: u16, judged: [Judged; CURVES]) -> u16
     ensures { λ r. ⌜ r ≡ permittedSpeed vmax judged ⌝ }
 {
     lower(vmax, places::least_permitted(judged))

@@ -5,12 +5,12 @@ use native.Mathlib.Omega.{arith}
 use borrow.Author.Needs.{needs}
 use Rattle.places.specs.Places.{places}
 use Rattle.curve.specs.Free.{freeCurve}
-use Rattle.track.proofs.Loops.{All, all-step, all-end}
+use Rattle.boards.proofs.Loops.{All, all-step, all-end}
 use Rattle.track.proofs.curves.all_curves_held.Statement.{statement}
 use Rattle.track.proofs.curves.all_curves_held.Tie as tie
 
 abbrev Inv-loop : tie.InvT-loop
-Inv-loop curves all₀ i₀ all i = All (λ curve. curve .held) curves all i
+Inv-loop curves all₀ i₀ all i = All (λ curve. curve .held) curves places all i
 
 abbrev μ-loop : tie.MeasureT-loop
 μ-loop curves all₀ i₀ all i = places - i

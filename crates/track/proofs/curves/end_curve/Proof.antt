@@ -7,12 +7,12 @@ use borrow.Author.Needs.{needs}
 use Rattle.places.specs.Places.{places}
 use Rattle.curve.specs.Free.{freeCurve}
 use Rattle.rules.specs.Places.{isCurve, endedCurve}
-use Rattle.track.proofs.Loops.{Changed, change-step, change-end}
+use Rattle.boards.proofs.Loops.{Changed, change-step, change-end}
 use Rattle.track.proofs.curves.end_curve.Statement.{statement}
 use Rattle.track.proofs.curves.end_curve.Tie as tie
 
 abbrev Inv-loop : tie.InvT-loop
-Inv-loop id curves next₀ i₀ next i = Changed (λ curve. cond (isCurve id curve) freeCurve curve) curves next i
+Inv-loop id curves next₀ i₀ next i = Changed (λ curve. cond (isCurve id curve) freeCurve curve) curves places next i
 
 abbrev μ-loop : tie.MeasureT-loop
 μ-loop id curves next₀ i₀ next i = places - i

@@ -6,12 +6,12 @@ use borrow.Author.Needs.{needs}
 use Rattle.places.specs.Places.{places}
 use Rattle.curve.specs.Free.{freeCurve}
 use Rattle.rules.specs.Places.{isCurve}
-use Rattle.track.proofs.Loops.{Any, any-step, any-end}
+use Rattle.boards.proofs.Loops.{Any, any-step, any-end}
 use Rattle.track.proofs.curves.holds_curve.Statement.{statement}
 use Rattle.track.proofs.curves.holds_curve.Tie as tie
 
 abbrev Inv-loop : tie.InvT-loop
-Inv-loop id curves any₀ i₀ any i = Any (isCurve id) curves any i
+Inv-loop id curves any₀ i₀ any i = Any (isCurve id) curves places any i
 
 abbrev μ-loop : tie.MeasureT-loop
 μ-loop id curves any₀ i₀ any i = places - i

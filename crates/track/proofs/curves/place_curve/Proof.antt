@@ -6,12 +6,12 @@ use borrow.Author.Needs.{needs}
 use borrow.Author.Tests.{not-true, not-false}
 use Rattle.places.specs.Places.{places}
 use Rattle.curve.specs.Free.{freeCurve}
-use Rattle.track.proofs.Loops.{Passed, pass-step, pass-taken, pass-end}
+use Rattle.boards.proofs.Loops.{Passed, pass-step, pass-taken, pass-end}
 use Rattle.track.proofs.curves.place_curve.Statement.{statement}
 use Rattle.track.proofs.curves.place_curve.Tie as tie
 
 abbrev Inv-loop : tie.InvT-loop
-Inv-loop new curves next₀ i₀ next i = Passed (λ curve. curve .held) new curves next i
+Inv-loop new curves next₀ i₀ next i = Passed (λ curve. curve .held) new places curves next i
 
 abbrev μ-loop : tie.MeasureT-loop
 μ-loop new curves next₀ i₀ next i = places - i

@@ -6,12 +6,12 @@ use borrow.Author.Needs.{needs}
 use Rattle.places.specs.Places.{places}
 use Rattle.curve.specs.Free.{freeCurve}
 use Rattle.rules.specs.Places.{replacedCurve}
-use Rattle.track.proofs.Loops.{Changed, change-step, change-end}
+use Rattle.boards.proofs.Loops.{Changed, change-step, change-end}
 use Rattle.track.proofs.curves.replace_curve.Statement.{statement}
 use Rattle.track.proofs.curves.replace_curve.Tie as tie
 
 abbrev Inv-loop : tie.InvT-loop
-Inv-loop new curves next₀ i₀ next i = Changed (replacedCurve new) curves next i
+Inv-loop new curves next₀ i₀ next i = Changed (replacedCurve new) curves places next i
 
 abbrev μ-loop : tie.MeasureT-loop
 μ-loop new curves next₀ i₀ next i = places - i

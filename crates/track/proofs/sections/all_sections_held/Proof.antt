@@ -5,12 +5,12 @@ use native.Mathlib.Omega.{arith}
 use borrow.Author.Needs.{needs}
 use Rattle.places.specs.Places.{places}
 use Rattle.rules.specs.Places.{freeSection}
-use Rattle.track.proofs.Loops.{All, all-step, all-end}
+use Rattle.boards.proofs.Loops.{All, all-step, all-end}
 use Rattle.track.proofs.sections.all_sections_held.Statement.{statement}
 use Rattle.track.proofs.sections.all_sections_held.Tie as tie
 
 abbrev Inv-loop : tie.InvT-loop
-Inv-loop sections all₀ i₀ all i = All (λ section. section .held) sections all i
+Inv-loop sections all₀ i₀ all i = All (λ section. section .held) sections places all i
 
 abbrev μ-loop : tie.MeasureT-loop
 μ-loop sections all₀ i₀ all i = places - i

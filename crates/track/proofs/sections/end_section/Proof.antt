@@ -6,12 +6,12 @@ use native.Mathlib.Omega.{arith}
 use borrow.Author.Needs.{needs}
 use Rattle.places.specs.Places.{places}
 use Rattle.rules.specs.Places.{freeSection, isSection, endingSection, endedSection}
-use Rattle.track.proofs.Loops.{Changed, change-step, change-end}
+use Rattle.boards.proofs.Loops.{Changed, change-step, change-end}
 use Rattle.track.proofs.sections.end_section.Statement.{statement}
 use Rattle.track.proofs.sections.end_section.Tie as tie
 
 abbrev Inv-loop : tie.InvT-loop
-Inv-loop id sections next₀ i₀ next i = Changed (λ section. cond (isSection id section) (endingSection section 0) section) sections next i
+Inv-loop id sections next₀ i₀ next i = Changed (λ section. cond (isSection id section) (endingSection section 0) section) sections places next i
 
 abbrev μ-loop : tie.MeasureT-loop
 μ-loop id sections next₀ i₀ next i = places - i

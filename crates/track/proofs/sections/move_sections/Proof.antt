@@ -5,12 +5,12 @@ use native.Mathlib.Omega.{arith}
 use borrow.Author.Needs.{needs}
 use Rattle.places.specs.Places.{places}
 use Rattle.rules.specs.Places.{freeSection, movedSection}
-use Rattle.track.proofs.Loops.{Changed, change-step, change-end}
+use Rattle.boards.proofs.Loops.{Changed, change-step, change-end}
 use Rattle.track.proofs.sections.move_sections.Statement.{statement}
 use Rattle.track.proofs.sections.move_sections.Tie as tie
 
 abbrev Inv-loop : tie.InvT-loop
-Inv-loop metres moved sections next₀ i₀ next i = Changed (movedSection metres moved) sections next i
+Inv-loop metres moved sections next₀ i₀ next i = Changed (movedSection metres moved) sections places next i
 
 abbrev μ-loop : tie.MeasureT-loop
 μ-loop metres moved sections next₀ i₀ next i = places - i

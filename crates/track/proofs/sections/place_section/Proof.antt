@@ -6,12 +6,12 @@ use borrow.Author.Needs.{needs}
 use borrow.Author.Tests.{not-true, not-false}
 use Rattle.places.specs.Places.{places}
 use Rattle.rules.specs.Places.{freeSection}
-use Rattle.track.proofs.Loops.{Passed, pass-step, pass-taken, pass-end}
+use Rattle.boards.proofs.Loops.{Passed, pass-step, pass-taken, pass-end}
 use Rattle.track.proofs.sections.place_section.Statement.{statement}
 use Rattle.track.proofs.sections.place_section.Tie as tie
 
 abbrev Inv-loop : tie.InvT-loop
-Inv-loop new sections next₀ i₀ next i = Passed (λ section. section .held) new sections next i
+Inv-loop new sections next₀ i₀ next i = Passed (λ section. section .held) new places sections next i
 
 abbrev μ-loop : tie.MeasureT-loop
 μ-loop new sections next₀ i₀ next i = places - i

@@ -5,12 +5,12 @@ use native.Mathlib.Omega.{arith}
 use borrow.Author.Needs.{needs}
 use Rattle.places.specs.Places.{places}
 use Rattle.rules.specs.Places.{freeSection, replacedSection}
-use Rattle.track.proofs.Loops.{Changed, change-step, change-end}
+use Rattle.boards.proofs.Loops.{Changed, change-step, change-end}
 use Rattle.track.proofs.sections.replace_section.Statement.{statement}
 use Rattle.track.proofs.sections.replace_section.Tie as tie
 
 abbrev Inv-loop : tie.InvT-loop
-Inv-loop new sections next₀ i₀ next i = Changed (replacedSection new) sections next i
+Inv-loop new sections next₀ i₀ next i = Changed (replacedSection new) sections places next i
 
 abbrev μ-loop : tie.MeasureT-loop
 μ-loop new sections next₀ i₀ next i = places - i

@@ -6,12 +6,12 @@ use native.Mathlib.Omega.{arith}
 use borrow.Author.Needs.{needs}
 use Rattle.places.specs.Places.{places}
 use Rattle.rules.specs.Places.{freeSection, isSection}
-use Rattle.track.proofs.Loops.{Any, any-step, any-end}
+use Rattle.boards.proofs.Loops.{Any, any-step, any-end}
 use Rattle.track.proofs.sections.stands_section.Statement.{statement}
 use Rattle.track.proofs.sections.stands_section.Tie as tie
 
 abbrev Inv-loop : tie.InvT-loop
-Inv-loop id sections any₀ i₀ any i = Any (λ section. isSection id section && not (section .ending)) sections any i
+Inv-loop id sections any₀ i₀ any i = Any (λ section. isSection id section && not (section .ending)) sections places any i
 
 abbrev μ-loop : tie.MeasureT-loop
 μ-loop id sections any₀ i₀ any i = places - i

@@ -1,80 +1,18 @@
 -- `track::shows::chosen` meets its contract.
-use Prim.Native.Nat.{_≤_, _-_}
-use mathlib.Core.Path.{_≡_, sym, _∙_}
-use native.Mathlib.Omega.{arith}
-use lib.ListN.{length}
-use borrow.Author.Needs.{needs}
-use Rattle.places.specs.Places.{places}
-use Rattle.rules.specs.Shows.{chosen}
-use Rattle.track.proofs.Showing.{chosenAt, chosen-start, chosen-step, chosen-end}
+use Rattle.track.specs.Among.{chosenAmong}
+use Rattle.track.proofs.Showing.{chosen-joined}
 use Rattle.track.proofs.shows.chosen.Statement.{statement}
 use Rattle.track.proofs.shows.chosen.Tie as tie
 
-abbrev Inv-loop : tie.InvT-loop
-Inv-loop curves judged best₀ i₀ best i =
-    (i ≤ places) × (length curves ≡ places) × (length judged ≡ places) × (chosenAt curves judged best i ≡ chosen curves judged)
+chosen-curve-requires : tie.Need-chosen-curve-requires
+chosen-curve-requires c κs = tt
 
-abbrev μ-loop : tie.MeasureT-loop
-μ-loop curves judged best₀ i₀ best i = places - i
+chosen-on-requires : tie.Need-chosen-on-requires
+chosen-on-requires c κs = tt
 
-no-candidate-requires : tie.Need-no-candidate-requires Inv-loop μ-loop
-no-candidate-requires c κs = tt
-
-loop-holds : tie.Need-loop-holds Inv-loop μ-loop
-loop-holds c =
-    let a = c .before .args in
-    (omega arith, search needs, search needs, rw (c .no-candidate .ensures) (chosen-start (a .t1) (a .t2)))
-
-mul-curve : tie.Need-mul-curve Inv-loop μ-loop
-mul-curve c = omega arith
-
-array-copy-out-curve : tie.Need-array-copy-out-curve Inv-loop μ-loop
-array-copy-out-curve c = omega arith
-
-mul-j : tie.Need-mul-j Inv-loop μ-loop
-mul-j c = omega arith
-
-array-copy-out-j : tie.Need-array-copy-out-j Inv-loop μ-loop
-array-copy-out-j c = omega arith
-
-chosen-of-requires : tie.Need-chosen-of-requires Inv-loop μ-loop
-chosen-of-requires c κs = tt
-
-add-i : tie.Need-add-i Inv-loop μ-loop
-add-i c = omega arith
-
-loop-less : tie.Need-loop-less Inv-loop μ-loop
-loop-less c = omega arith
-
-loop-again : tie.Need-loop-again Inv-loop μ-loop
-loop-again c =
-    let o = c .before .before .before .before in
-    let a = o .before .before .args in
-    let v = o .loop .inv in
-    let step = chosen-step (a .t1) (a .t2) (o .loop .best) (o .loop .i) (v .1 ∙ sym (v .2)) (c .chosen-of .ensures) (omega arith) in
-    (omega arith, v .1, v .2, step ∙ v .3)
-
-returns : tie.Need-returns Inv-loop μ-loop
-returns c =
-    let o = c .before in
-    let a = o .before .before .args in
-    let v = o .loop .inv in
-    chosen-end (a .t1) (a .t2) (o .loop .best) (o .loop .i) (v .1 ∙ sym (v .2)) (omega arith) ∙ v .3
+returns : tie.Need-returns
+unfolding chosenAmong
+returns c = rw (chosen-joined, c .chosen-on .ensures, c .before .chosen-curve .ensures)
 
 pub chosen-spec : {M : Type 1} → statement M
-chosen-spec =
-    tie.close
-    (tie.spec
-    Inv-loop
-    μ-loop
-    no-candidate-requires
-    loop-holds
-    mul-curve
-    array-copy-out-curve
-    mul-j
-    array-copy-out-j
-    chosen-of-requires
-    add-i
-    loop-less
-    loop-again
-    returns)
+chosen-spec = tie.close (tie.spec chosen-curve-requires chosen-on-requires returns)

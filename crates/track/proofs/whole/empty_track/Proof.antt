@@ -9,9 +9,13 @@ free-curve-requires c κs = tt
 no-sections-requires : tie.Need-no-sections-requires
 no-sections-requires c κs = tt
 
+no-records-requires : tie.Need-no-records-requires
+no-records-requires c κs = tt
+
 returns : tie.Need-returns
 unfolding emptyTrack
-returns c = rw (c .no-sections .ensures, c .before .free-curve .ensures)
+returns c = rw (c .no-records .ensures, c .before .no-sections .ensures, c .before .before .free-curve .ensures)
 
 pub empty-track-spec : {M : Type 1} → statement M
-empty-track-spec = tie.close (tie.spec free-curve-requires no-sections-requires returns)
+empty-track-spec =
+    tie.close (tie.spec free-curve-requires no-sections-requires no-records-requires returns)

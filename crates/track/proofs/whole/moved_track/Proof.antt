@@ -12,10 +12,19 @@ move-sections-requires c κs = tt
 covered-stay-requires : tie.Need-covered-stay-requires
 covered-stay-requires c κs = tt
 
+move-records-requires : tie.Need-move-records-requires
+move-records-requires c κs = tt
+
 returns : tie.Need-returns
 unfolding movedTrack
-returns c = rw (c .covered-stay .ensures, c .before .move-sections .ensures, c .before .before .move-all .ensures)
+returns c = rw (c .move-records .ensures, c .before .covered-stay .ensures, c .before .before .move-sections .ensures, c .before .before .before .move-all .ensures)
 
 pub moved-track-spec : {M : Type 1} → statement M
 moved-track-spec =
-    tie.close (tie.spec move-all-requires move-sections-requires covered-stay-requires returns)
+    tie.close
+    (tie.spec
+    move-all-requires
+    move-sections-requires
+    covered-stay-requires
+    move-records-requires
+    returns)

@@ -1,0 +1,67 @@
+-- Where all that may be curves are judged at once, the curves and the records are noted and shown as the rules say. Assumes nothing.
+use mathlib.Core.Path.{_≡_, refl, sym, ap, ap₂, _∙_}
+use Prim.Native.Nat.{ℕ, _≤_}
+use native.Mathlib.Omega.{arith}
+use mathlib.Core.Bool.{Bool, true, false}
+use mathlib.Core.List.{List, _++_, map, zipWith, map-append, map-map}
+use lib.ListN.{length, drop, length-map}
+use lib.Seq.{drop-at}
+use Rattle.laws.proofs.Lists.{zip-longer}
+use Rattle.curve.specs.declared.Curve.{Curve}
+use Rattle.curve.specs.declared.Judged.{Judged}
+use Rattle.interval.specs.Judging.{notedAt}
+use Rattle.places.specs.Places.{places, judgedHere}
+use Rattle.records.specs.declared.EtRecord.{EtRecord}
+use Rattle.records.specs.Lives.{asCurve}
+use Rattle.rules.specs.declared.Train.{Train}
+use Rattle.rules.specs.declared.Track.{Track}
+use Rattle.rules.specs.declared.Kept.{Kept}
+use Rattle.rules.specs.declared.Candidate.{Candidate}
+use Rattle.rules.specs.Places.{allCurves, withCurves, withRecords}
+use Rattle.rules.specs.Speeds.{brakingOf, judgedBy, judgedNow}
+use Rattle.rules.specs.Odometer.{notedRecords, notedTrack}
+use Rattle.rules.specs.Shows.{candidate, noCandidate, chosenFrom, candidates, chosen}
+use Rattle.rules.proofs.Tests.{zip-self}
+use Rattle.track.specs.Among.{chosenAmong, notedAmong}
+
+module _ (judge : Curve → Judged) (curves more : List Curve) where
+  -- what the curves say stands first,
+  pub first : {B : Type 0} (f : Curve → Judged → B) → zipWith f curves (map judge (curves ++ more)) ≡ zipWith f curves (map judge curves)
+  first f =
+      let long : length curves ≤ length (map judge curves) = simp length-map (omega arith) in
+      rw (map-append judge curves more) (zip-longer f curves (map judge curves) (map judge more) long)
+
+  -- and what the records say behind it
+  pub behind : length curves ≡ places → drop places (map judge (curves ++ more)) ≡ map judge more
+  behind e = rw (map-append judge curves more) (drop-at (map judge curves) (map judge more) places (simp length-map e))
+
+-- each record with what it says as a curve
+records-said : (judge : Curve → Judged) (ets : List EtRecord)
+    → zipWith (candidate true) (map asCurve ets) (map judge (map asCurve ets))
+    ≡ map (λ et. candidate true (asCurve et) (judge (asCurve et))) ets
+records-said judge ets =
+    zip-self (candidate true) judge (map asCurve ets) ∙ map-map (λ curve. candidate true curve (judge curve)) asCurve ets
+
+module _ (train : Train) (kept : Kept) (track : Track) where
+  abbrev judge : Curve → Judged
+  judge = judgedHere (brakingOf train (kept .halka)) (kept .speed)
+
+  abbrev more : List Curve
+  more = map asCurve (track .records)
+
+  module _ (judged : List Judged) (said : judged ≡ judgedNow train kept (allCurves track)) (sixteen : length (track .curves) ≡ places) where
+    pub track-noted : notedAmong track judged ≡ notedTrack train kept track
+    unfolding notedAmong notedTrack judgedNow allCurves
+    track-noted =
+        rw said
+        (ap₂ (λ curves ets. withRecords (withCurves track curves) ets)
+        (first judge (track .curves) more (λ curve j. notedAt curve (j .interval)))
+        (ap (notedRecords (track .records)) (behind judge (track .curves) more sixteen)))
+
+    pub chosen-told : chosenAmong (track .curves) (track .records) judged ≡ chosen (judgedBy train kept) track
+    unfolding chosenAmong chosen candidates judgedNow judgedBy allCurves
+    chosen-told =
+        rw said
+        (ap₂ (λ xs ys. chosenFrom noCandidate (xs ++ ys))
+        (first judge (track .curves) more (candidate false) ∙ zip-self (candidate false) judge (track .curves))
+        (ap (zipWith (candidate true) more) (behind judge (track .curves) more sixteen) ∙ records-said judge (track .records)))
