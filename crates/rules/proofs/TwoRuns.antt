@@ -213,9 +213,9 @@ claimed u w x y runs h h′ = record {
   permitted = rw (area-is u x h, area-is w y h′) (runs .report .permitted);
   interval = λ curve curve′ holds holds′ same.
       interval-no-earlier (runs .units .train) (runs .units .kept) curve curve′
-      (runs .units .track .curves .stricter curve curve′ holds holds′ same);
+      (runs .units .track .curves .related curve curve′ holds holds′ same);
   records = λ et et′ holds holds′ same effective.
-      let c = runs .units .track .records .compared et et′ holds holds′ same in
+      let c = runs .units .track .records .related et et′ holds holds′ same in
       (ap isEffective (c .condition) ∙ effective, interval-no-earlier (runs .units .train) (runs .units .kept) (et .curve) (et′ .curve) (c .stricter));
   order = rw (area-is u x h, area-is w y h′) (runs .report .order);
 }

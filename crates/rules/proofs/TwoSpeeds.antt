@@ -90,14 +90,14 @@ curves-covered : {curves curves′ : List Curve} → CurvesBelow curves curves�
 curves-covered {curves} below curve place held =
     let holds : Holds curves curve = record { place = place; held = held } in
     let (curve′, holds′, same) = below .partner curve holds in
-    (curve′, holds′, below .stricter curve curve′ holds holds′ same)
+    (curve′, holds′, below .related curve curve′ holds holds′ same)
 
 -- and so has a record that is a curve
 records-covered : {ets ets′ : List EtRecord} → RecordsBelow ets ets′ → Covered (map asCurve ets) (map asCurve ets′)
 records-covered {ets} {ets′} below curve place held =
     let r = record-of ets curve (record { place = place; held = held }) in
     let (et′, holds′, same) = below .partner (r .et) (r .holds) in
-    let c = below .compared (r .et) et′ (r .holds) holds′ same in
+    let c = below .related (r .et) et′ (r .holds) holds′ same in
     let is : RecordIs ets′ (et′ .curve) =
     record { et = et′; holds = holds′; effective = ap isEffective (c .condition) ∙ r .effective; is = refl } in
     (et′ .curve, record-in is, subst (λ before. Stricter before (et′ .curve)) (r .is) (c .stricter))

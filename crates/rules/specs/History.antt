@@ -138,18 +138,19 @@ sectionAt place stm = getD (stm .track .sections) place freeSection
 abbrev pub recordAt : ℕ → Stm → EtRecord
 recordAt place stm = getD (stm .track .records) place freeRecord
 
--- a place of the list holds this curve, this section or this record
-pub record Holds (curves : List Curve) (curve : Curve) : Type 0 where
-  pub place : List·Memᴰ curve curves
-  pub held : curve .held ≡ true
+-- a place of the list holds this one: a curve, a section or a record
+pub record HeldIn {A : Type 0} (isHeld : A → Bool) (xs : List A) (x : A) : Type 0 where
+  pub place : List·Memᴰ x xs
+  pub held : isHeld x ≡ true
 
-pub record HoldsSection (sections : List Section) (section : Section) : Type 0 where
-  pub place : List·Memᴰ section sections
-  pub held : section .held ≡ true
+abbrev pub Holds : List Curve → Curve → Type 0
+Holds curves curve = HeldIn (λ each. each .held) curves curve
 
-pub record HoldsRecord (ets : List EtRecord) (et : EtRecord) : Type 0 where
-  pub place : List·Memᴰ et ets
-  pub held : et .curve .held ≡ true
+abbrev pub HoldsSection : List Section → Section → Type 0
+HoldsSection sections section = HeldIn (λ each. each .held) sections section
+
+abbrev pub HoldsRecord : List EtRecord → EtRecord → Type 0
+HoldsRecord ets et = HeldIn (λ each. each .curve .held) ets et
 
 -- 02, F-7: "Active and locked ones are curves in all that the members voted": what is supervised is a curve that a place holds or, with
 -- `et`, that of a record which is active or locked
