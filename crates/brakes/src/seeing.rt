@@ -5,7 +5,7 @@ ghost use Rattle.rules.specs.Odometer.{isInsufficient, seenWith};
 use crate::release::is_rolled;
 use curve::Interval;
 use curve::Judged;
-use places::PLACES;
+use places::CURVES;
 use pressure::Measured;
 use rules::Kept;
 use rules::Roll;
@@ -23,7 +23,7 @@ pub fn is_insufficient(train: Train, feedback: Measured) -> bool
 
 // Where the curves say this, and VMAX is this.
 pub fn seen_with(
-    judged: [Judged; PLACES],
+    judged: [Judged; CURVES],
     vmax: u16,
     train: Train,
     feedback: Measured,
