@@ -137,7 +137,7 @@ module _ {A : Type 0} (at : Stm → A) (held : A → Bool) (test : Stm → List 
   step stm x true e n free = one stm x e (n refl) free
   step stm x false e n free = rw (after-other stm x e)
 
-  over : (stm : Stm) (xs : List Sent) → held (at stm) ≡ false → noneAccepted test stm xs ≡ true → at (stateAtEnd stm xs) ≡ at stm
+  pub over : (stm : Stm) (xs : List Sent) → held (at stm) ≡ false → noneAccepted test stm xs ≡ true → at (stateAtEnd stm xs) ≡ at stm
   unfolding stateAtEnd
   over stm [] free n = refl
   over stm (x ∷ xs) free n =

@@ -4,7 +4,7 @@ use Prim.Native.Nat.{ℕ, _+_, _≤_, _<_}
 use native.Mathlib.Omega.{arith}
 use native.Mathlib.Nat.{add-zero}
 use native.Mathlib.Decide.{decLe}
-use mathlib.Core.Bool.{Bool, true, false, cond, _&&_, _||_}
+use mathlib.Core.Bool.{Bool, true, false, cond, _&&_, _||_, or-false}
 use mathlib.Core.Logic.{_⊎_, inl, inr}
 use mathlib.Core.List.{List, [], _∷_}
 use lib.Dec.{eqb, leb}
@@ -12,20 +12,25 @@ use lib.ListN.{getD}
 use borrow.Author.Tests.{leb-true, le-leb, lt-leb}
 use Rattle.wire.specs.Numbers.{byteAt}
 use Rattle.wire.specs.Form.{operandsOf}
+use Rattle.curve.specs.declared.Curve.{Curve}
+use Rattle.curve.specs.declared.Interval.{Interval}
+use Rattle.interval.specs.Judging.{judgedOf, notedAt}
+use Rattle.places.specs.Places.{noneJudged}
 use Rattle.records.specs.declared.Condition.{Condition}
 use Rattle.records.specs.declared.EtRecord.{EtRecord}
 use Rattle.records.specs.Numbers.{categoryNumber, signalNumber, signalOf}
-use Rattle.records.specs.Lives.{freeRecord, coveredBy, movedRecord, passedRecord}
+use Rattle.records.specs.Lives.{isEffective, freeRecord, coveredBy, movedRecord, passedRecord, withCurve, asCurve}
 use Rattle.records.specs.Claims.{rowNumber, controls}
-use Rattle.records.proofs.Claims.{others-leave-it, decided-stays}
+use Rattle.records.proofs.Claims.{others-leave-it, decided-stays, free-place-stays}
 use Rattle.rules.specs.Numbers.{codeOf, stateOf, isAccepted, isCode, isState}
 use Rattle.rules.specs.Operands.{codeByte, signalInRange, readingOf, recordOf, signalIn, routeIn, inRange}
 use Rattle.rules.specs.Places.{givenRecord}
-use Rattle.rules.specs.Runs.{Sent, answerTo, stateAfter, stateAtEnd, noneAccepted, freshens}
+use Rattle.rules.specs.Speeds.{brakingOf}
+use Rattle.rules.specs.Runs.{Sent, answerTo, stateAfter, stateAtEnd, noneAccepted, isOf, freshens}
 use Rattle.rules.specs.History.{firstOperand, movedOf, isMoving, groundOver, collected, recordAt}
 use Rattle.rules.specs.Ground.{HasLost}
 use Rattle.rules.specs.Held.{holdsAt}
-use Rattle.rules.specs.RecordRuns.{touchesRecord, controlsRecord, DecidedStaysOver, UndecidedUntil}
+use Rattle.rules.specs.RecordRuns.{touchesRecord, controlsRecord, DecidedStaysOver, UndecidedUntil, FreeRecordsStay}
 use Rattle.rules.specs.declared.Code.{Code}
 use Rattle.rules.specs.declared.State.{State}
 use Rattle.rules.specs.declared.Reading.{Reading}
@@ -34,8 +39,9 @@ use Rattle.rules.proofs.Tests.{impossible, both, neither, second-fails}
 use Rattle.rules.proofs.Told.{code-is}
 use Rattle.rules.proofs.Answers.{passed, after-other}
 use Rattle.rules.proofs.AtPlaces.{elsewhere, given-stays}
-use Rattle.rules.proofs.AtRecords.{recordIn, enteredRecord, recordBy, record-after}
-use Rattle.rules.proofs.Supervising.{moved-record}
+use Rattle.rules.proofs.AtRecords.{notedFor, recordIn, enteredRecord, recordBy, record-after}
+use Rattle.rules.proofs.Supervising.{moved-record, unmoved-record}
+use Rattle.rules.proofs.FreePlaces.{over}
 use Rattle.rules.proofs.Ground.{lost-nothing, lost-moved, lost-both, ground-step, spared-first}
 
 -- ---- ground
@@ -284,3 +290,62 @@ undecided-until stm xs place ground held is below n =
       λ h. ap rowNumber (after
           ∙ ap (λ t. cond t Condition.Locked (Condition.Undecided (ground + groundOver stm xs))) (le-leb 10000 (ground + groundOver stm xs) h)),
     )
+
+-- ---- free places
+
+-- A notes nothing
+not-noted : (curve : Curve) → notedAt curve Interval.A ≡ curve
+not-noted curve =
+    ap (λ past. record {
+      held = curve .held;
+      id = curve .id;
+      kind = curve .kind;
+      distance = curve .distance;
+      speed = curve .speed;
+      gradient = curve .gradient;
+      past = past;
+    }) (or-false (curve .past))
+
+free-noted-record : (r : Reading) (stm : Stm) (et : EtRecord) → et .curve .held ≡ false → notedFor r stm et ≡ et
+free-noted-record r stm et h =
+    ap (λ t. withCurve et (notedAt (et .curve) (cond t (judgedOf (brakingOf (stm .train) (r .halka)) (r .speed) (asCurve et)) noneJudged .interval)))
+    (ap (_&& isEffective (et .condition)) h)
+    ∙ ap (withCurve et) (not-noted (et .curve))
+
+free-in : (state : State) (r : Reading) (stm : Stm) (et : EtRecord) → et .curve .held ≡ false → recordIn state r stm et ≡ et
+free-in State.DE r stm et h = refl
+free-in State.CS r stm et h = refl
+free-in State.HS r stm et h = unmoved-record (r .moved) et h
+free-in State.DA r stm et h = ap (notedFor r stm) (unmoved-record (r .moved) et h) ∙ free-noted-record r stm et h
+free-in State.FA r stm et h = refl
+
+free-by : (code : Code) (s : List ℕ) (stm : Stm) (place : ℕ) → recordAt place stm .curve .held ≡ false
+    → (isCode Code.Start code || isCode Code.ChangeState code && isState State.CS (stateOf (byteAt s 0))) ≡ false
+    → isCode Code.NewRecord code ≡ false → recordBy code s stm place ≡ recordAt place stm
+free-by Code.Start s stm place h f n = impossible (sym f)
+free-by Code.ChangeState s stm place h f n = entered-other (stateOf (byteAt s 0)) (recordAt place stm) f
+free-by Code.Odometer s stm place h f n = free-in (stm .control .state) (readingOf s) stm (recordAt place stm) h
+free-by Code.NewCurve s stm place h f n = refl
+free-by Code.EndCurve s stm place h f n = refl
+free-by Code.NewSection s stm place h f n = refl
+free-by Code.EndSection s stm place h f n = refl
+free-by Code.StopPassed s stm place h f n = refl
+free-by Code.Proceed s stm place h f n = refl
+free-by Code.BaliseError s stm place h f n = refl
+free-by Code.TestBrakes s stm place h f n = refl
+free-by Code.AreaEvent s stm place h f n = refl
+free-by Code.NewRecord s stm place h f n = impossible (sym n)
+free-by Code.SignalPassed s stm place h f n = free-place-stays [] (signalIn s) (routeIn s) (recordAt place stm) h .1
+free-by Code.EndRecord s stm place h f n =
+    ap (λ t. cond (t && eqb (recordAt place stm .curve .id) (byteAt s 0)) freeRecord (recordAt place stm)) h
+
+pub free-records-stay : FreeRecordsStay
+free-records-stay stm xs place =
+    over (recordAt place) (λ et. et .curve .held) (λ before command. freshens command || isOf Code.NewRecord command) one stm xs
+  where
+    one : (stm : Stm) (x : Sent) → isAccepted (answerTo stm x) ≡ true → (freshens (x .command) || isOf Code.NewRecord (x .command)) ≡ false
+        → recordAt place stm .curve .held ≡ false → recordAt place (stateAfter stm x) ≡ recordAt place stm
+    one stm x e n free =
+        let t = neither (freshens (x .command)) (isOf Code.NewRecord (x .command)) n in
+        let code = codeOf (codeByte (x .command)) in
+        record-after stm x code e refl place ∙ free-by code (operandsOf (x .command)) stm place free (t .0) (t .1)

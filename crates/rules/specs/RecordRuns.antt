@@ -214,6 +214,14 @@ RecordChangesBy =
     ⊎ ((isOf Code.SignalPassed (x .command) && isDecidedBy (x .command) before) ≡ true
     ⊎ HundredMetres stm (x .command) before)
 
+-- a place that holds none stays as it is until a new one comes
+abbrev pub FreeRecordsStay : Type 0
+FreeRecordsStay =
+    (stm : Stm) (xs : List Sent) (place : ℕ)
+    → recordAt place stm .curve .held ≡ false
+    → noneAccepted (λ before command. freshens command || isOf Code.NewRecord command) stm xs ≡ true
+    → recordAt place (stateAtEnd stm xs) ≡ recordAt place stm
+
 -- ---- past in B
 
 -- "Past in B is noted as for curves": at a report in DA that finds or makes it active or locked, and of no other record
