@@ -1,6 +1,6 @@
 -- `track::shows::chosen_on` meets its contract.
-use Prim.Native.Nat.{_+_, _≤_, _-_, _<_}
-use mathlib.Core.Path.{_≡_, refl, ap₂, sym, _∙_}
+use Prim.Native.Nat.{_≤_, _-_, _<_}
+use mathlib.Core.Path.{_≡_, refl, sym, _∙_}
 use mathlib.Core.Bool.{true}
 use mathlib.Core.List.{map}
 use lib.ListN.{length, drop, getD, length-map, length-drop}
