@@ -22,6 +22,7 @@ use Rattle.records.specs.Numbers.{categoryNumber, signalNumber, signalOf}
 use Rattle.records.specs.Lives.{isEffective, freeRecord, coveredBy, movedRecord, passedRecord, withCurve, asCurve}
 use Rattle.records.specs.Claims.{rowNumber, controls}
 use Rattle.records.proofs.Claims.{others-leave-it, decided-stays, free-place-stays}
+use Rattle.records.proofs.Told.{covered-decided}
 use Rattle.rules.specs.Numbers.{codeOf, stateOf, isAccepted, isCode, isState}
 use Rattle.rules.specs.Operands.{codeByte, signalInRange, readingOf, recordOf, signalIn, routeIn, inRange}
 use Rattle.rules.specs.Places.{givenRecord}
@@ -63,15 +64,6 @@ covered-twice m n Condition.DefinitelyActive = refl
 covered-twice m n Condition.PreliminaryPassive = refl
 covered-twice m n Condition.PreliminaryActive = refl
 covered-twice m n Condition.Locked = refl
-
--- of one that is decided it changes nothing
-pub decided-covered : (n : ℕ) (condition : Condition) → (rowNumber condition ≡ 0 → ⊥) → coveredBy n condition ≡ condition
-decided-covered n (Condition.Undecided ground) d = absurd (d refl)
-decided-covered n Condition.Terminated d = refl
-decided-covered n Condition.DefinitelyActive d = refl
-decided-covered n Condition.PreliminaryPassive d = refl
-decided-covered n Condition.PreliminaryActive d = refl
-decided-covered n Condition.Locked d = refl
 
 -- ---- a record after so much ground
 
@@ -264,15 +256,15 @@ module _ (id category place : ℕ) where
     where
       row-back : {ground : ℕ} (a b : EtRecord) → Lived ground a b → (rowNumber (a .condition) ≡ 0 → ⊥) → rowNumber (b .condition) ≡ 0
           → rowNumber (a .condition) ≡ 0
-      row-back {ground} a b lived d z = sym (ap rowNumber (lived .condition ∙ decided-covered ground (a .condition) d)) ∙ z
+      row-back {ground} a b lived d z = sym (ap rowNumber (lived .condition ∙ covered-decided ground (a .condition) d)) ∙ z
 
 pub decided-stays-over : DecidedStaysOver
 decided-stays-over stm xs place held d n =
     let et = recordAt place stm in
     let p = over-lived (et .curve .id) (categoryNumber (et .category)) place (λ before command. touchesRecord (et .curve .id) command) stm xs held
-    refl refl (decided-covered 0 (et .condition) d)
+    refl refl (covered-decided 0 (et .condition) d)
     (λ before command condition h t. record { touches = t; signals = inl (h d) }) n in
-    (p .lost, p .category, p .condition ∙ decided-covered (groundOver stm xs) (et .condition) d)
+    (p .lost, p .category, p .condition ∙ covered-decided (groundOver stm xs) (et .condition) d)
 
 pub undecided-until : UndecidedUntil
 undecided-until stm xs place ground held is below n =

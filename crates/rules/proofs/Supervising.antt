@@ -1,7 +1,7 @@
 -- What is supervised, among all curves: those that places hold, and those of active and locked records. Assumes nothing.
 use Prim.Native.Nat.{ℕ}
 use mathlib.Core.Path.{_≡_, refl, sym, _∙_, ap, ap₂}
-use mathlib.Core.Bool.{Bool, true, false, cond, _&&_, and-eq-true-iff}
+use mathlib.Core.Bool.{Bool, true, false, _&&_, and-eq-true-iff}
 use mathlib.Core.Logic.{inl, inr}
 use mathlib.Core.List.{List, [], _∷_, _++_, map, zipWith, Memᴰ·cast, Memᴰ·map, Memᴰ·of-map, Memᴰ·append-left, Memᴰ·append-right, List·Memᴰ·append-cases}
 use Rattle.curve.specs.declared.Curve.{Curve}
@@ -9,6 +9,7 @@ use Rattle.records.specs.declared.EtRecord.{EtRecord}
 use Rattle.curve.specs.declared.Judged.{Judged}
 use Rattle.curve.specs.Ground.{movedBy}
 use Rattle.records.specs.Lives.{isEffective, withCondition, withCurve, asCurve, coveredBy, movedRecord}
+use Rattle.records.proofs.Told.{moved-held, moved-free}
 use Rattle.rules.specs.Places.{allCurves}
 use Rattle.rules.specs.Odometer.{notedRecord, notedRecords}
 use Rattle.rules.specs.History.{Holds, RecordIs, Supervises}
@@ -39,12 +40,10 @@ as-held et e = and-eq-true-iff (et .curve .held) (isEffective (et .condition)) .
 -- ground moved, of a record that is held; any place keeps what it holds
 pub moved-record : (moved : ℕ) (et : EtRecord) → et .curve .held ≡ true
     → movedRecord moved et ≡ withCondition (withCurve et (movedBy (et .curve) moved)) (coveredBy moved (et .condition))
-unfolding movedRecord
-moved-record moved et h = ap (λ t. cond t (withCondition (withCurve et (movedBy (et .curve) moved)) (coveredBy moved (et .condition))) et) h
+moved-record = moved-held
 
 pub unmoved-record : (moved : ℕ) (et : EtRecord) → et .curve .held ≡ false → movedRecord moved et ≡ et
-unfolding movedRecord
-unmoved-record moved et h = ap (λ t. cond t (withCondition (withCurve et (movedBy (et .curve) moved)) (coveredBy moved (et .condition))) et) h
+unmoved-record = moved-free
 
 pub moved-record-held : (moved : ℕ) (et : EtRecord) → movedRecord moved et .curve .held ≡ et .curve .held
 moved-record-held moved et = by (et .curve .held) refl
