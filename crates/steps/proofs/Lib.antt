@@ -1,2 +1,3 @@
+mod InDA
 mod Outside
 mod Supervising

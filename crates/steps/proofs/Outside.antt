@@ -9,6 +9,7 @@ use Rattle.rules.specs.declared.State.{State}
 use Rattle.rules.specs.declared.Stage.{Stage}
 use Rattle.rules.specs.declared.Stm.{Stm}
 use Rattle.rules.specs.Numbers.{stateNumber, isState}
+use Rattle.rules.specs.Places.{allCurves}
 use Rattle.rules.specs.Speeds.{judgedNow, vmaxOf}
 use Rattle.rules.specs.Odometer.{seenWith, seenOf, seenIn}
 use Rattle.rules.specs.Reports.{messagesOf, fields, reportInDA, reportOutside, testOrder, reportFor, reportOf}
@@ -29,7 +30,7 @@ by-state State.FA stm = refl
 module _ (stm : Stm) where
   -- what is seen in a state, by what its curves say and VMAX
   pub seen-in : seenIn stm
-      ≡ seenWith (judgedNow (stm .train) (stm .kept) (stm .track .curves)) (vmaxOf (stm .train) (stm .track)) (stm .train)
+      ≡ seenWith (judgedNow (stm .train) (stm .kept) (allCurves (stm .track))) (vmaxOf (stm .train) (stm .track)) (stm .train)
       (stm .feedback) (stm .kept) (stm .brakes .since) (stm .brakes .roll)
   unfolding seenIn seenOf
   seen-in = refl
@@ -43,6 +44,6 @@ module _ (stm : Stm) where
   pub report-elsewhere : isState State.DA (stm .control .state) ≡ false
       → reportOf stm
       ≡ fields (stateNumber (stm .control .state)) (orderOutside (stm .control .state) (stm .test .stage)) 0 0 0 (255 ∷ 0 ∷ 0 ∷ 0 ∷ [])
-      (messagesOf (stm .brakes) (stm .feedback) (stm .test)) 0 never (areaNumber (stm .track .stay .area))
+      (messagesOf (stm .brakes) (stm .feedback) (stm .test) false) 0 never (areaNumber (stm .track .stay .area))
   unfolding reportOf reportOutside
   report-elsewhere e = by-state (stm .control .state) stm ∙ rw e

@@ -1,23 +1,17 @@
--- What an odometer report in DA leaves once it has moved, where the curves are judged once: their pasts, noted since, change nothing
--- that they say.
--- Assumes nothing.
+-- What an odometer report in DA leaves once it has moved, where the curves and records are judged once: their pasts, noted since,
+-- change nothing that they say. Assumes nothing.
 use mathlib.Core.Path.{_≡_, refl, sym, ap, ap₂, _∙_}
 use Prim.Native.Nat.{ℕ}
 use mathlib.Core.Bool.{Bool, true, false, cond}
-use mathlib.Core.List.{List, [], _∷_, zipWith}
+use mathlib.Core.List.{List}
+use lib.ListN.{length}
 use Rattle.wire.specs.Codes.{longest}
 use Rattle.pressure.specs.declared.Measured.{Measured}
 use Rattle.pressure.specs.Report.{reportedTo}
 use Rattle.curve.specs.declared.Curve.{Curve}
-use Rattle.curve.specs.declared.Braking.{Braking}
-use Rattle.curve.specs.declared.Interval.{Interval}
 use Rattle.curve.specs.declared.Judged.{Judged}
-use Rattle.curve.specs.Boundary.{targetOf, isAbove, lineFor, isReached, isReachedF, isReachedAtKmh}
-use Rattle.interval.specs.Intervals.{intervalOf}
-use Rattle.interval.specs.Permitted.{permittedOf}
-use Rattle.interval.specs.Judging.{isFast, brakesAt, judgedOf, notedAt}
-use Rattle.places.specs.Places.{noneJudged, judgedHere, judgedAll, notedAll}
-use Rattle.rules.specs.Places.{withCurves}
+use Rattle.places.specs.Places.{places}
+use Rattle.rules.specs.Places.{allCurves}
 use Rattle.rules.specs.Speeds.{judgedNow, vmaxOf}
 use Rattle.rules.specs.Checks.{isDrop}
 use Rattle.rules.specs.Releases.{isRolled, notedBrakes, addedBrakes, leftBrakes, releasedBrakes}
@@ -34,43 +28,17 @@ use Rattle.rules.specs.declared.Kept.{Kept}
 use Rattle.rules.specs.declared.Reading.{Reading}
 use Rattle.rules.specs.declared.Seen.{Seen}
 use Rattle.rules.specs.declared.Stm.{Stm}
+use Rattle.track.specs.Among.{notedAmong}
+use Rattle.track.proofs.Judging.{track-noted, judged-again, vmax-again}
 
--- ---- the curves
-
--- what a curve says does not look at its past
-judged-noted : (braking : Braking) (v : ℕ) (curve : Curve) (interval : Interval)
-    → judgedOf braking v (notedAt curve interval) ≡ judgedOf braking v curve
-unfolding judgedOf intervalOf permittedOf brakesAt isFast isReached isReachedF isReachedAtKmh lineFor isAbove targetOf
-judged-noted braking v curve interval = refl
-
-judged-here : (braking : Braking) (v : ℕ) (curve : Curve) (interval : Interval)
-    → judgedHere braking v (notedAt curve interval) ≡ judgedHere braking v curve
-judged-here braking v curve interval = ap (λ said. cond (curve .held) said noneJudged) (judged-noted braking v curve interval)
-
-judged-all : (braking : Braking) (v : ℕ) (curves : List Curve)
-    → judgedAll braking v (notedAll curves (judgedAll braking v curves)) ≡ judgedAll braking v curves
-unfolding zipWith
-judged-all braking v [] = refl
-judged-all braking v (curve ∷ curves) =
-    ap₂ _∷_ (judged-here braking v curve (judgedHere braking v curve .interval)) (judged-all braking v curves)
-
-judged-again : (train : Train) (kept : Kept) (curves : List Curve)
-    → judgedNow train kept (notedAll curves (judgedNow train kept curves)) ≡ judgedNow train kept curves
-unfolding judgedNow
-judged-again train kept curves = judged-all _ _ curves
-
--- VMAX does not look at the curves
-vmax-again : (train : Train) (track : Track) (curves : List Curve) → vmaxOf train (withCurves track curves) ≡ vmaxOf train track
-unfolding vmaxOf
-vmax-again train track curves = refl
+-- ---- what is seen
 
 -- what is seen is the same once the pasts are noted
 seen-noted : (train : Train) (track : Track) (feedback : Measured) (kept : Kept) (since : Since) (roll : Roll)
     → seenOf train (notedTrack train kept track) feedback kept since roll
-    ≡ seenWith (judgedNow train kept (track .curves)) (vmaxOf train track) train feedback kept since roll
-unfolding seenOf notedTrack
-seen-noted train track feedback kept since roll =
-    rw (judged-again train kept (track .curves), vmax-again train track (notedAll (track .curves) (judgedNow train kept (track .curves))))
+    ≡ seenWith (judgedNow train kept (allCurves track)) (vmaxOf train track) train feedback kept since roll
+unfolding seenOf
+seen-noted train track feedback kept since roll = rw (judged-again train kept track, vmax-again train kept track)
 
 -- ---- what brakes
 
@@ -93,11 +61,11 @@ left-since false s loss text b = refl
 abbrev pub pressedBy : Reading → Stm → Measured
 pressedBy r stm = reportedTo (stm .feedback) (stm .train .feed) (stm .train .pressure) (r .external)
 
-abbrev pub judgedBy : Reading → Stm → List Judged
-judgedBy r stm = judgedNow (stm .train) (keptOf r) (stm .track .curves)
+abbrev pub saidBy : Reading → Stm → List Judged
+saidBy r stm = judgedNow (stm .train) (keptOf r) (allCurves (stm .track))
 
 abbrev pub trackBy : Reading → Stm → Track
-trackBy r stm = withCurves (stm .track) (notedAll (stm .track .curves) (judgedBy r stm))
+trackBy r stm = notedTrack (stm .train) (keptOf r) (stm .track)
 
 abbrev pub notedBy : Reading → Stm → Brakes
 notedBy r stm = notedBrakes (stm .train) r (stm .brakes)
@@ -105,7 +73,7 @@ notedBy r stm = notedBrakes (stm .train) r (stm .brakes)
 -- what is seen, with this rolled ground
 abbrev pub seenBy : Reading → Stm → Roll → Seen
 seenBy r stm roll =
-    seenWith (judgedBy r stm) (vmaxOf (stm .train) (stm .track)) (stm .train) (pressedBy r stm) (keptOf r) (notedBy r stm .since) roll
+    seenWith (saidBy r stm) (vmaxOf (stm .train) (stm .track)) (stm .train) (pressedBy r stm) (keptOf r) (notedBy r stm .since) roll
 
 abbrev pub addedBy : Reading → Stm → Brakes
 addedBy r stm = addedBrakes (stm .train) (isDrop (pressedBy r stm)) (seenBy r stm (notedBy r stm .roll)) (notedBy r stm)
@@ -134,12 +102,12 @@ nextBy r stm = stmBy r stm (cond (addedBy r stm .failed) State.FA (stm .control 
 -- what is seen in such a state
 seen-by : (r : Reading) (stm : Stm) (state : State) (brakes : Brakes) → brakes .since ≡ notedBy r stm .since
     → seenIn (stmBy r stm state brakes) ≡ seenBy r stm (brakes .roll)
-unfolding seenIn notedTrack
+unfolding seenIn
 seen-by r stm state brakes since =
     rw since (seen-noted (stm .train) (stm .track) (pressedBy r stm) (keptOf r) (notedBy r stm .since) (brakes .roll))
 
 adds-by : (r : Reading) (stm : Stm) → adds (notes r (measures r stm)) ≡ stmBy r stm (stm .control .state) (addedBy r stm)
-unfolding adds notes measures seenIn notedTrack
+unfolding adds notes measures seenIn
 adds-by r stm =
     rw (seen-noted (stm .train) (stm .track) (pressedBy r stm) (keptOf r) (notedBy r stm .since) (notedBy r stm .roll))
 
@@ -197,6 +165,7 @@ seen-after r stm =
 pub record Steps (r : Reading) (stm : Stm) : Type 0 where
   pub measured : Measured
   pub kept : Kept
+  pub all : List Curve
   pub judged : List Judged
   pub vmax : ℕ
   pub noted : Brakes
@@ -207,11 +176,11 @@ pub record Steps (r : Reading) (stm : Stm) : Type 0 where
   pub text : Bool
   pub left : Brakes
   pub state : State
-  pub curves : List Curve
   pub track : Track
   pub measured-is : measured ≡ pressedBy r stm
   pub kept-is : kept ≡ keptOf r
-  pub judged-is : judged ≡ judgedNow (stm .train) kept (stm .track .curves)
+  pub all-is : all ≡ allCurves (stm .track)
+  pub judged-is : judged ≡ judgedNow (stm .train) kept all
   pub vmax-is : vmax ≡ vmaxOf (stm .train) (stm .track)
   pub noted-is : noted ≡ notedBy r stm
   pub seen-is : seen ≡ seenWith judged vmax (stm .train) measured kept (noted .since) (noted .roll)
@@ -221,8 +190,8 @@ pub record Steps (r : Reading) (stm : Stm) : Type 0 where
   pub text-is : text ≡ isFresh (stm .kept .text) (r .text)
   pub left-is : left ≡ cond (added .failed) added (releasedBrakes seen loss text added)
   pub state-is : state ≡ cond (added .failed) State.FA (stm .control .state)
-  pub curves-is : curves ≡ notedAll (stm .track .curves) judged
-  pub track-is : track ≡ withCurves (stm .track) curves
+  pub whole : length (stm .track .curves) ≡ places
+  pub track-is : track ≡ notedAmong (stm .track) judged
 
 abbrev pub lastOf : {r : Reading} {stm : Stm} → Steps r stm → Stm
 lastOf {r} {stm} s = record {
@@ -236,11 +205,14 @@ lastOf {r} {stm} s = record {
   last = stm .last;
 }
 
+track-by : {r : Reading} {stm : Stm} (s : Steps r stm) → s .track ≡ notedTrack (stm .train) (s .kept) (stm .track)
+track-by {r} {stm} s =
+    s .track-is ∙ track-noted (stm .train) (s .kept) (stm .track) (s .judged) (s .judged-is ∙ ap (judgedNow (stm .train) (s .kept)) (s .all-is)) (s .whole)
+
 last-by : {r : Reading} {stm : Stm} (s : Steps r stm) → lastOf s ≡ nextBy r stm
 last-by s =
     rw (
-      s .track-is,
-      s .curves-is,
+      track-by s,
       s .state-is,
       s .left-is,
       s .text-is,
@@ -251,6 +223,7 @@ last-by s =
       s .noted-is,
       s .vmax-is,
       s .judged-is,
+      s .all-is,
       s .kept-is,
       s .measured-is,
     )
@@ -259,15 +232,14 @@ pub last-is : {r : Reading} {stm : Stm} (s : Steps r stm) → lastOf s ≡ super
 last-is {r} {stm} s = last-by s ∙ sym (supervised-by r stm)
 
 -- what the curves say, VMAX and what is seen, after it
-pub judged-last : {r : Reading} {stm : Stm} (s : Steps r stm) → s .judged ≡ judgedNow (stm .train) (s .kept) (s .track .curves)
-judged-last {r} {stm} s =
-    rw (s .track-is, s .curves-is, s .judged-is) (sym (judged-again (stm .train) (s .kept) (stm .track .curves)))
+pub judged-last : {r : Reading} {stm : Stm} (s : Steps r stm) → s .judged ≡ judgedNow (stm .train) (s .kept) (allCurves (s .track))
+judged-last {r} {stm} s = rw (track-by s, s .judged-is, s .all-is) (sym (judged-again (stm .train) (s .kept) (stm .track)))
 
 pub vmax-last : {r : Reading} {stm : Stm} (s : Steps r stm) → s .vmax ≡ vmaxOf (stm .train) (s .track)
-vmax-last {r} {stm} s = rw (s .track-is, s .vmax-is) (sym (vmax-again (stm .train) (stm .track) (s .curves)))
+vmax-last {r} {stm} s = rw (track-by s, s .vmax-is) (sym (vmax-again (stm .train) (s .kept) (stm .track)))
 
 seen-steps : {r : Reading} {stm : Stm} (s : Steps r stm) → s .seen ≡ seenBy r stm (notedBy r stm .roll)
-seen-steps s = rw (s .seen-is, s .noted-is, s .vmax-is, s .judged-is, s .kept-is, s .measured-is)
+seen-steps s = rw (s .seen-is, s .noted-is, s .vmax-is, s .judged-is, s .all-is, s .kept-is, s .measured-is)
 
 pub seen-last : {r : Reading} {stm : Stm} (s : Steps r stm) → rolledIn (s .seen) (s .left .roll) ≡ seenIn (lastOf s)
 seen-last {r} {stm} s =

@@ -1,15 +1,18 @@
 // What an accepted command does.
 ghost use mathlib.Core.Path.{_≡_};
 ghost use Rattle.rules.specs.Numbers.{codeOf};
-ghost use Rattle.rules.specs.Operands.{codeByte, curveOf, sectionOf};
+ghost use Rattle.rules.specs.Operands.{codeByte, curveOf, sectionOf, recordOf, signalIn, routeIn};
 ghost use Rattle.wire.specs.Numbers.{byteAt};
-ghost use Rattle.rules.specs.Places.{withCurves, withSections, givenCurve, endedCurve, givenSection, endedSection};
+ghost use Rattle.rules.specs.Places.{withCurves, withSections, withRecords, givenCurve, endedCurve, givenSection, endedSection, givenRecord, endedRecord, signalledRecords};
 ghost use Rattle.rules.specs.BrakeTest.{leftTest};
 ghost use Rattle.rules.specs.Odometer.{withTest};
 ghost use Rattle.rules.specs.Commands.{entered, stopped, carriedOut, remembered};
 use crate::odometer::take_reading;
 use crate::report::remember;
 use crate::state::fresh_with;
+use boards::end_record;
+use boards::give_record;
+use boards::pass_signal;
 use brake_test::begun_test;
 use brake_test::left_test;
 use brakes::release::brakes_by;
@@ -18,7 +21,10 @@ use encoding::fields::curve_of;
 use encoding::fields::event_in;
 use encoding::fields::event_speed;
 use encoding::fields::reading_of;
+use encoding::fields::record_of;
+use encoding::fields::route_in;
 use encoding::fields::section_of;
+use encoding::fields::signal_in;
 use encoding::fields::train_of;
 use encoding::numbers::code_of;
 use encoding::numbers::is_state;
@@ -36,10 +42,11 @@ use track::whole::cleared_track;
 use track::whole::passed_track;
 use track::whole::with_curves;
 use track::whole::with_forty;
+use track::whole::with_records;
 use track::whole::with_sections;
 use wire::byte_at;
 
-// Entering CS drops curves, sections, causes, their counters and the 40, and keeps the area.
+// Entering CS drops curves, sections, records, causes, their counters and the 40, and keeps the area.
 fn enter(state: State, stm: Stm) -> Stm
     ensures { λ r. ⌜ r ≡ entered state stm ⌝ }
 {
@@ -94,6 +101,27 @@ fn section_ended(s: &[u8], track: Track) -> Track
 {
     let sections = track.sections;
     with_sections(track, end_section(byte_at(s, 0), sections))
+}
+
+fn new_record(s: &[u8], track: Track) -> Track
+    ensures { λ r. ⌜ r ≡ withRecords track (givenRecord (recordOf (now (s .entry))) (track .records)) ⌝ }
+{
+    let records = track.records;
+    with_records(track, give_record(record_of(s), records))
+}
+
+fn signal_passed(s: &[u8], track: Track) -> Track
+    ensures { λ r. ⌜ r ≡ withRecords track (signalledRecords (signalIn (now (s .entry))) (routeIn (now (s .entry))) (track .records)) ⌝ }
+{
+    let records = track.records;
+    with_records(track, pass_signal(signal_in(s), route_in(s), records))
+}
+
+fn record_ended(s: &[u8], track: Track) -> Track
+    ensures { λ r. ⌜ r ≡ withRecords track (endedRecord (byteAt (now (s .entry)) 0) (track .records)) ⌝ }
+{
+    let records = track.records;
+    with_records(track, end_record(byte_at(s, 0), records))
 }
 
 // Command 30; an unexpected stop brings the 40.
@@ -151,6 +179,18 @@ pub fn accept(command: &[u8], s: &[u8], stm: Stm) -> Stm
         }
         Code::AreaEvent => {
             next.track = passed_track(event_in(s), event_speed(s), track);
+            remember(command, next)
+        }
+        Code::NewRecord => {
+            next.track = new_record(s, track);
+            remember(command, next)
+        }
+        Code::SignalPassed => {
+            next.track = signal_passed(s, track);
+            remember(command, next)
+        }
+        Code::EndRecord => {
+            next.track = record_ended(s, track);
             remember(command, next)
         }
     }

@@ -31,10 +31,11 @@ use rules::Seen;
 use rules::State;
 use rules::Stm;
 use rules::Train;
+use track::whole::all_curves;
 use track::whole::judge_now;
 use track::whole::moved_track;
+use track::whole::note_track;
 use track::whole::vmax_of;
-use track::whole::with_curves;
 
 // ---- moves and measures
 
@@ -160,7 +161,7 @@ fn state_after(failed: bool, state: State) -> State
     if failed { State::FA } else { state }
 }
 
-// What comes once the train has moved. What the curves say is judged once, and serves causes, release and report.
+// What comes once the train has moved. What the curves and records say is judged once, and serves causes, release and report.
 fn supervise(command: &[u8], r: Reading, stm: Stm) -> Stm
     ensures { λ x. ⌜ x ≡ remembered (now (command .entry)) (releases (isFresh (stm .kept .loss) (r .loss)) (isFresh (stm .kept .text) (r .text)) (adds (notes r (measures r stm)))) ⌝ }
 {
@@ -174,8 +175,7 @@ fn supervise(command: &[u8], r: Reading, stm: Stm) -> Stm
     let before = stm.kept;
     let measured = feedback_after(train, feedback, r);
     let kept = kept_of(r);
-    let curves = track.curves;
-    let judged = judge_now(train, kept, curves);
+    let judged = judge_now(train, kept, all_curves(track));
     let vmax = vmax_of(train, track);
     let noted = noted_brakes(train, r, brakes);
     let since = noted.since;
@@ -194,7 +194,7 @@ fn supervise(command: &[u8], r: Reading, stm: Stm) -> Stm
         state: state_after(added.failed, state),
     };
     next.control = led;
-    next.track = with_curves(track, places::note_all(curves, judged));
+    next.track = note_track(track, judged);
     next.brakes = left;
     next.feedback = measured;
     next.kept = kept;

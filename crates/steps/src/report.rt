@@ -1,11 +1,12 @@
 // The report.
 ghost use Prim.Native.Nat.{_≤_};
 ghost use mathlib.Core.Path.{_≡_};
-ghost use mathlib.Core.Bool.{cond};
+ghost use mathlib.Core.Bool.{false, cond};
 ghost use mathlib.Core.List.{_∷_, []};
 ghost use Rattle.rules.specs.declared.State.{State};
 ghost use Rattle.rules.specs.Numbers.{stateNumber, orderNumber, isState};
-ghost use Rattle.rules.specs.Shows.{chosen};
+ghost use Rattle.track.specs.Among.{chosenAmong};
+ghost use Rattle.rules.specs.Places.{allCurves};
 ghost use Rattle.rules.specs.Speeds.{judgedNow, vmaxOf, permittedSpeed};
 ghost use Rattle.rules.specs.Table.{orderOf};
 ghost use Rattle.rules.specs.Odometer.{isInsufficient, seenIn};
@@ -30,7 +31,7 @@ use curve::Judged;
 use encoding::numbers::is_state;
 use encoding::numbers::order_number;
 use encoding::numbers::state_number;
-use places::PLACES;
+use places::CURVES;
 use pressure::Measured;
 use refusals::padded;
 use rules::BrakeTest;
@@ -49,6 +50,7 @@ use rules::Train;
 use track::shows::change_of;
 use track::shows::chosen;
 use track::shows::showing_of;
+use track::whole::all_curves;
 use track::whole::braking_of;
 use track::whole::judge_now;
 use track::whole::permitted_speed;
@@ -59,7 +61,7 @@ use wire::high_pair;
 use wire::low;
 use wire::low_pair;
 
-// The four bytes of the shown curve.
+// The four bytes of what is shown.
 struct Shown {
     id: u8,
     interval: u8,
@@ -91,8 +93,9 @@ fn causes_number(c: Causes) -> u16
         + value(c.service, 2048)
 }
 
-fn messages_of(b: Brakes, feedback: Measured, test: BrakeTest) -> u8
-    ensures { λ r. ⌜ r ≡ messagesOf b feedback test ⌝ }
+// `et` is whether an ET record is shown.
+fn messages_of(b: Brakes, feedback: Measured, test: BrakeTest, et: bool) -> u8
+    ensures { λ r. ⌜ r ≡ messagesOf b feedback test et ⌝ }
 {
     let stage = test.stage;
     let result = test.result;
@@ -101,7 +104,8 @@ fn messages_of(b: Brakes, feedback: Measured, test: BrakeTest) -> u8
         + value(feedback.fault, 4)
         + value(is_running(stage), 8)
         + value(has_passed(result), 16)
-        + value(has_failed(result), 32)) as u8
+        + value(has_failed(result), 32)
+        + value(et, 64)) as u8
 }
 
 fn offered_of(s: Seen, c: Causes) -> u8
@@ -144,9 +148,9 @@ fn shown_fields(over: bool, insufficient: bool, shown: Candidate) -> Shown
     }
 }
 
-// In DA, where the curves say this, VMAX is this and this is seen.
+// In DA, where all that may be curves say this, VMAX is this and this is seen.
 fn report_in_da(
-    judged: [Judged; PLACES],
+    judged: [Judged; CURVES],
     vmax: u16,
     seen: Seen,
     train: Train,
@@ -156,15 +160,16 @@ fn report_in_da(
     test: BrakeTest,
     kept: Kept,
 ) -> [u8; REPORT_LENGTH]
-    ensures { λ r. ⌜ r ≡ fields (stateNumber State.DA) (orderNumber (orderOf (train .softly) (brakes .causes))) (causesNumber (brakes .causes)) (permittedSpeed vmax judged) vmax (shownFields (isOver train kept (chosen (track .curves) judged)) (isInsufficient train feedback) (chosen (track .curves) judged)) (messagesOf brakes feedback test) (offeredOf seen (brakes .causes)) (changeOf train kept (chosen (track .curves) judged)) (areaNumber (track .stay .area)) ⌝ }
+    ensures { λ r. ⌜ r ≡ fields (stateNumber State.DA) (orderNumber (orderOf (train .softly) (brakes .causes))) (causesNumber (brakes .causes)) (permittedSpeed vmax judged) vmax (shownFields (isOver train kept (chosenAmong (track .curves) (track .records) judged)) (isInsufficient train feedback) (chosenAmong (track .curves) (track .records) judged)) (messagesOf brakes feedback test (chosenAmong (track .curves) (track .records) judged .et)) (offeredOf seen (brakes .causes)) (changeOf train kept (chosenAmong (track .curves) (track .records) judged)) (areaNumber (track .stay .area)) ⌝ }
 {
     let curves = track.curves;
+    let records = track.records;
     let stay = track.stay;
     let area = stay.area;
     let causes = brakes.causes;
     let number = causes_number(causes);
     let permitted = permitted_speed(vmax, judged);
-    let candidate = chosen(curves, judged);
+    let candidate = chosen(curves, records, judged);
     let shown = shown_fields(
         is_over(train, kept, candidate),
         is_insufficient(train, feedback),
@@ -186,7 +191,7 @@ fn report_in_da(
         shown.interval,
         shown.bar,
         shown.mode,
-        messages_of(brakes, feedback, test),
+        messages_of(brakes, feedback, test, candidate.et),
         offered_of(seen, causes),
         high(first),
         low(first),
@@ -228,7 +233,7 @@ pub fn report_outside(
     feedback: Measured,
     test: BrakeTest,
 ) -> [u8; REPORT_LENGTH]
-    ensures { λ r. ⌜ r ≡ fields (stateNumber state) (cond (isState State.FA state) 3 (cond (isState State.DE state) (testOrder (test .stage)) 0)) 0 0 0 (255 ∷ 0 ∷ 0 ∷ 0 ∷ []) (messagesOf brakes feedback test) 0 never (areaNumber (track .stay .area)) ⌝ }
+    ensures { λ r. ⌜ r ≡ fields (stateNumber state) (cond (isState State.FA state) 3 (cond (isState State.DE state) (testOrder (test .stage)) 0)) 0 0 0 (255 ∷ 0 ∷ 0 ∷ 0 ∷ []) (messagesOf brakes feedback test false) 0 never (areaNumber (track .stay .area)) ⌝ }
 {
     let stay = track.stay;
     let area = stay.area;
@@ -246,7 +251,7 @@ pub fn report_outside(
         0,
         0,
         0,
-        messages_of(brakes, feedback, test),
+        messages_of(brakes, feedback, test, false),
         0,
         255,
         255,
@@ -262,14 +267,13 @@ fn report_now(stm: Stm) -> [u8; REPORT_LENGTH]
 {
     let train = stm.train;
     let track = stm.track;
-    let curves = track.curves;
     let brakes = stm.brakes;
     let since = brakes.since;
     let roll = brakes.roll;
     let feedback = stm.feedback;
     let test = stm.test;
     let kept = stm.kept;
-    let judged = judge_now(train, kept, curves);
+    let judged = judge_now(train, kept, all_curves(track));
     let vmax = vmax_of(train, track);
     let seen = seen_with(judged, vmax, train, feedback, kept, since, roll);
     report_in_da(
@@ -301,14 +305,14 @@ fn report_of(stm: Stm) -> [u8; REPORT_LENGTH]
     report_outside(state, track, brakes, feedback, test)
 }
 
-// The report of a state of which it is known already what its curves say, its VMAX and what is seen.
+// The report of a state of which it is known already what all that may be curves say, its VMAX and what is seen.
 pub(crate) fn report_with(
-    judged: [Judged; PLACES],
+    judged: [Judged; CURVES],
     vmax: u16,
     seen: Seen,
     stm: Stm,
 ) -> [u8; REPORT_LENGTH]
-    requires { ⌜ (judged ≡ judgedNow (stm .train) (stm .kept) (stm .track .curves)) × (vmax ≡ vmaxOf (stm .train) (stm .track)) × (seen ≡ seenIn stm) ⌝ }
+    requires { ⌜ (judged ≡ judgedNow (stm .train) (stm .kept) (allCurves (stm .track))) × (vmax ≡ vmaxOf (stm .train) (stm .track)) × (seen ≡ seenIn stm) ⌝ }
     ensures { λ r. ⌜ r ≡ reportOf stm ⌝ }
 {
     let control = stm.control;

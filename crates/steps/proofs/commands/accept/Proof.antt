@@ -148,6 +148,33 @@ passed-track-requires c κs = tt
 remember-requires-11 : tie.Need-remember-requires-11
 remember-requires-11 c κs = tt
 
+enum-told-13 : tie.Need-enum-told-13
+enum-told-13 c = search needs
+
+new-record-requires : tie.Need-new-record-requires
+new-record-requires c κs = tt
+
+remember-requires-12 : tie.Need-remember-requires-12
+remember-requires-12 c κs = tt
+
+enum-told-14 : tie.Need-enum-told-14
+enum-told-14 c = search needs
+
+signal-passed-requires : tie.Need-signal-passed-requires
+signal-passed-requires c κs = tt
+
+remember-requires-13 : tie.Need-remember-requires-13
+remember-requires-13 c κs = tt
+
+enum-told-15 : tie.Need-enum-told-15
+enum-told-15 c = search needs
+
+record-ended-requires : tie.Need-record-ended-requires
+record-ended-requires c κs = tt
+
+remember-requires-14 : tie.Need-remember-requires-14
+remember-requires-14 c κs = tt
+
 returns : tie.Need-returns
 returns c =
     let told = c .before .before .before in
@@ -249,6 +276,30 @@ returns-12 c =
     )
     (known (a .command .now) (a .s .now) (a .stm) (coded .before .byte-at .ensures) (coded .code-of .ensures) (told .enum-told12 .given .1))
 
+returns-13 : tie.Need-returns-13
+returns-13 c =
+    let told = c .before .before in
+    let coded = told .before .before in
+    let a = coded .before .before .before .before .before .before .args in
+    rw (c .remember12 .ensures, c .before .new-record .ensures)
+    (known (a .command .now) (a .s .now) (a .stm) (coded .before .byte-at .ensures) (coded .code-of .ensures) (told .enum-told13 .given .1))
+
+returns-14 : tie.Need-returns-14
+returns-14 c =
+    let told = c .before .before in
+    let coded = told .before .before in
+    let a = coded .before .before .before .before .before .before .args in
+    rw (c .remember13 .ensures, c .before .signal-passed .ensures)
+    (known (a .command .now) (a .s .now) (a .stm) (coded .before .byte-at .ensures) (coded .code-of .ensures) (told .enum-told14 .given .1))
+
+returns-15 : tie.Need-returns-15
+returns-15 c =
+    let told = c .before .before in
+    let coded = told .before .before in
+    let a = coded .before .before .before .before .before .before .args in
+    rw (c .remember14 .ensures, c .before .record-ended .ensures)
+    (known (a .command .now) (a .s .now) (a .stm) (coded .before .byte-at .ensures) (coded .code-of .ensures) (told .enum-told15 .given .1))
+
 pub accept-spec : {M : Type 1} → statement M
 accept-spec =
     tie.close
@@ -297,6 +348,15 @@ accept-spec =
     event-speed-requires
     passed-track-requires
     remember-requires-11
+    enum-told-13
+    new-record-requires
+    remember-requires-12
+    enum-told-14
+    signal-passed-requires
+    remember-requires-13
+    enum-told-15
+    record-ended-requires
+    remember-requires-14
     returns
     returns-2
     returns-3
@@ -308,4 +368,7 @@ accept-spec =
     returns-9
     returns-10
     returns-11
-    returns-12)
+    returns-12
+    returns-13
+    returns-14
+    returns-15)

@@ -1,5 +1,7 @@
 -- `steps::odometer::supervise` meets its contract.
-use mathlib.Core.Path.{ap, _∙_}
+use mathlib.Core.Path.{_≡_, sym, ap, _∙_}
+use lib.ListN.{length, length-map}
+use Rattle.places.specs.Places.{places}
 use Rattle.rules.specs.Reports.{reportOf}
 use Rattle.steps.proofs.Supervising.{Steps, last-is, judged-last, vmax-last, seen-last, remembered-as}
 use Rattle.steps.proofs.odometer.supervise.Statement.{statement}
@@ -10,6 +12,9 @@ feedback-after-requires c κs = tt
 
 kept-of-requires : tie.Need-kept-of-requires
 kept-of-requires c κs = tt
+
+all-curves-requires : tie.Need-all-curves-requires
+all-curves-requires c κs = tt
 
 judge-now-requires : tie.Need-judge-now-requires
 judge-now-requires c κs = tt
@@ -41,11 +46,8 @@ released-requires c κs = tt
 state-after-requires : tie.Need-state-after-requires
 state-after-requires c κs = tt
 
-note-all-requires : tie.Need-note-all-requires
-note-all-requires c κs = tt
-
-with-curves-requires : tie.Need-with-curves-requires
-with-curves-requires c κs = tt
+note-track-requires : tie.Need-note-track-requires
+note-track-requires c κs = tt
 
 padded-requires : tie.Need-padded-requires
 padded-requires c κs = tt
@@ -54,15 +56,18 @@ rolled-in-requires : tie.Need-rolled-in-requires
 rolled-in-requires c κs = tt
 
 -- where the function begins
-abbrev start : tie.After-with-curves → tie.Start
+abbrev start : tie.After-note-track → tie.Start
 start c =
-    c .before .before .before .before .before .before .before .before .before .before .before .before .before .before .before .before .before .before .before .before .before .before .before
+    c .before .before .before .before .before .before .before .before .before .before .before .before .before .before .before .before .before .before .before .before .before .before
+
+-- its curves stand at all their places
+whole : (s : tie.Start) → length (s .args .stm .track .curves) ≡ places
+whole s = sym (length-map (s .args .stm .track .curves) _) ∙ s .good .1 .1 .0 .1 .1 .1 .1 .0 .1 .1 .0 .1 .0 .1
 
 -- the steps up to the report
-abbrev steps : (c : tie.After-with-curves) → Steps (start c .args .r) (start c .args .stm)
+abbrev steps : (c : tie.After-note-track) → Steps (start c .args .r) (start c .args .stm)
 steps c =
-    let at-curves = c .before in
-    let at-state = at-curves .before in
+    let at-state = c .before in
     let at-left = at-state .before in
     let at-text = at-left .before in
     let at-loss = at-text .before in
@@ -72,11 +77,13 @@ steps c =
     let at-noted = at-seen .before .before in
     let at-vmax = at-noted .before in
     let at-judged = at-vmax .before in
-    let at-kept = at-judged .before .before in
+    let at-all = at-judged .before in
+    let at-kept = at-all .before in
     let at-measured = at-kept .before in
     record {
       measured = at-measured .feedback-after .result;
       kept = at-kept .kept-of .result;
+      all = at-all .all-curves .result;
       judged = at-judged .judge-now .result;
       vmax = at-vmax .vmax-of .result;
       noted = at-noted .noted-brakes .result;
@@ -87,10 +94,10 @@ steps c =
       text = at-text .is-fresh2 .result;
       left = at-left .released .result;
       state = at-state .state-after .result;
-      curves = at-curves .note-all .result;
-      track = c .with-curves .result;
+      track = c .note-track .result;
       measured-is = at-measured .feedback-after .ensures;
       kept-is = at-kept .kept-of .ensures;
+      all-is = at-all .all-curves .ensures;
       judged-is = at-judged .judge-now .ensures;
       vmax-is = at-vmax .vmax-of .ensures;
       noted-is = at-noted .noted-brakes .ensures;
@@ -101,8 +108,8 @@ steps c =
       text-is = at-text .is-fresh2 .ensures;
       left-is = at-left .released .ensures;
       state-is = at-state .state-after .ensures;
-      curves-is = at-curves .note-all .ensures;
-      track-is = c .with-curves .ensures;
+      whole = whole (start c);
+      track-is = c .note-track .ensures;
     }
 
 report-with-requires : tie.Need-report-with-requires
@@ -122,6 +129,7 @@ supervise-spec =
     (tie.spec
     feedback-after-requires
     kept-of-requires
+    all-curves-requires
     judge-now-requires
     vmax-of-requires
     noted-brakes-requires
@@ -132,8 +140,7 @@ supervise-spec =
     is-fresh-requires-2
     released-requires
     state-after-requires
-    note-all-requires
-    with-curves-requires
+    note-track-requires
     padded-requires
     rolled-in-requires
     report-with-requires

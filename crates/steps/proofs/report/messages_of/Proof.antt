@@ -46,18 +46,26 @@ value-requires-6 c κs = tt
 add-result-5 : tie.Need-add-result-5
 add-result-5 c = omega arith
 
+value-requires-7 : tie.Need-value-requires-7
+value-requires-7 c κs = tt
+
+add-result-6 : tie.Need-add-result-6
+add-result-6 c = omega arith
+
 cast-result : tie.Need-cast-result
 cast-result c = omega arith
 
 returns : tie.Need-returns
 unfolding messagesOf
 returns c =
-    let o = c .before .before .before .before in
+    let n = c .before in
+    let o = n .before .before .before .before in
     rw (
-      c .value6 .ensures .0,
-      c .before .has-failed .ensures,
-      c .before .before .value5 .ensures .0,
-      c .before .before .before .has-passed .ensures,
+      c .value7 .ensures .0,
+      n .value6 .ensures .0,
+      n .before .has-failed .ensures,
+      n .before .before .value5 .ensures .0,
+      n .before .before .before .has-passed .ensures,
       o .value4 .ensures .0,
       o .before .is-running .ensures,
       o .before .before .value3 .ensures .0,
@@ -83,5 +91,7 @@ messages-of-spec =
     has-failed-requires
     value-requires-6
     add-result-5
+    value-requires-7
+    add-result-6
     cast-result
     returns)

@@ -1,5 +1,5 @@
 -- `steps::report::report_in_da` meets its contract.
-use mathlib.Core.Path.{sym}
+use Rattle.steps.proofs.InDA.{bytes-in-da}
 use Rattle.steps.proofs.report.report_in_da.Statement.{statement}
 use Rattle.steps.proofs.report.report_in_da.Tie as tie
 
@@ -86,39 +86,33 @@ returns c =
     let c12 = c8 .before .before .before .before in
     let c16 = c12 .before .before .before .before in
     let c20 = c16 .before .before .before .before in
-    rw (
-      sym (c20 .before .chosen .ensures),
-      sym (c20 .is-over .ensures),
-      sym (c16 .before .before .before .is-insufficient .ensures),
-      sym (c16 .before .before .shown-fields .ensures),
-      c .area-number .ensures,
-    )
-    (rw (
-      b .low5 .ensures,
-      b .before .high5 .ensures,
-      b .before .before .low4 .ensures,
-      b .before .before .before .high4 .ensures,
-      c4 .offered-of .ensures,
-      c4 .before .messages-of .ensures,
-      c4 .before .before .low3 .ensures,
-      c4 .before .before .before .high3 .ensures,
-      c8 .low2 .ensures,
-      c8 .before .high2 .ensures,
-    )
-    (rw (
-      c8 .before .before .low .ensures,
-      c8 .before .before .before .high .ensures,
-      c12 .order-number .ensures,
-      c12 .before .order-of .ensures,
-      c12 .before .before .state-number .ensures,
-    )
-    (rw (
-      c12 .before .before .before .low-pair .ensures,
-      c16 .high-pair .ensures,
-      c16 .before .change-of .ensures,
-      c20 .before .before .permitted-speed .ensures,
-      c20 .before .before .before .causes-number .ensures,
-    ))))
+    let a = c20 .before .before .before .before .before .before .before .before .args in
+    bytes-in-da (a .judged) (a .vmax) (a .seen) (a .train) (a .track) (a .brakes) (a .feedback) (a .test) (a .kept)
+    (c20 .before .before .before .causes-number .ensures)
+    (c20 .before .before .permitted-speed .ensures)
+    (c20 .before .chosen .ensures)
+    (c20 .is-over .ensures)
+    (c16 .before .before .before .is-insufficient .ensures)
+    (c16 .before .before .shown-fields .ensures)
+    (c16 .before .change-of .ensures)
+    (c16 .high-pair .ensures)
+    (c12 .before .before .before .low-pair .ensures)
+    (c12 .before .before .state-number .ensures)
+    (c12 .before .order-of .ensures)
+    (c12 .order-number .ensures)
+    (c8 .before .before .before .high .ensures)
+    (c8 .before .before .low .ensures)
+    (c8 .before .high2 .ensures)
+    (c8 .low2 .ensures)
+    (c4 .before .before .before .high3 .ensures)
+    (c4 .before .before .low3 .ensures)
+    (c4 .before .messages-of .ensures)
+    (c4 .offered-of .ensures)
+    (b .before .before .before .high4 .ensures)
+    (b .before .before .low4 .ensures)
+    (b .before .high5 .ensures)
+    (b .low5 .ensures)
+    (c .area-number .ensures)
 
 pub report-in-da-spec : {M : Type 1} → statement M
 report-in-da-spec =

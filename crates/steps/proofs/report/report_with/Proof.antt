@@ -1,6 +1,9 @@
 -- `steps::report::report_with` meets its contract.
-use mathlib.Core.Path.{sym, _∙_}
+use mathlib.Core.Path.{_≡_, refl, sym, _∙_}
+use lib.ListN.{length, length-map}
+use Rattle.places.specs.Places.{places}
 use Rattle.rules.specs.Reports.{reportWith, reportInDA}
+use Rattle.track.proofs.Judging.{chosen-told}
 use Rattle.steps.proofs.Outside.{report-inside}
 use Rattle.steps.proofs.report.report_with.Statement.{statement}
 use Rattle.steps.proofs.report.report_with.Tie as tie
@@ -11,6 +14,10 @@ is-state-requires c κs = tt
 report-in-da-requires : tie.Need-report-in-da-requires
 report-in-da-requires c κs = tt
 
+-- its curves stand at all their places
+whole : (s : tie.Start) → length (s .args .stm .track .curves) ≡ places
+whole s = sym (length-map (s .args .stm .track .curves) _) ∙ s .good .1 .1 .1 .0 .1 .1 .1 .1 .0 .1 .1 .0 .1 .0 .1
+
 returns : tie.Need-returns
 unfolding reportInDA reportWith
 returns c =
@@ -20,6 +27,7 @@ returns c =
       report-inside (s .args .stm) (sym (taken .before .is-state .ensures) ∙ taken .if1 .taken),
       c .report-in-da .ensures,
       s .pre .0,
+      chosen-told (s .args .stm .train) (s .args .stm .kept) (s .args .stm .track) _ refl (whole s),
       s .pre .1,
       s .pre .2,
     )
