@@ -189,20 +189,6 @@ pub fn note_records(ets: [EtRecord; RECORDS], judged: [Judged; CURVES]) -> [EtRe
     next
 }
 
-// The curve at a place, counting the records' places on from the curves'.
-fn curve_at(i: usize, curves: [Curve; PLACES], ets: [EtRecord; RECORDS]) -> Curve
-    ensures { λ r. ⌜ r ≡ getD (curves ++ map asCurve ets) i freeCurve ⌝ }
-{
-    if i < PLACES {
-        return curves[i];
-    }
-    let at = i - PLACES;
-    if at < RECORDS {
-        return as_curve(ets[at]);
-    }
-    free_curve()
-}
-
 // All that may be curves: the curves, and the records as curves.
 pub fn all_curves(curves: [Curve; PLACES], ets: [EtRecord; RECORDS]) -> [Curve; CURVES]
     ensures { λ r. ⌜ r ≡ curves ++ map asCurve ets ⌝ }
@@ -210,7 +196,14 @@ pub fn all_curves(curves: [Curve; PLACES], ets: [EtRecord; RECORDS]) -> [Curve; 
     let none = free_curve();
     let mut all = [none; CURVES];
     for i in 0..CURVES {
-        all[i] = curve_at(i, curves, ets);
+        if i < PLACES {
+            let curve = curves[i];
+            all[i] = curve;
+        } else {
+            let at = i - PLACES;
+            let et = ets[at];
+            all[i] = as_curve(et);
+        }
     }
     all
 }

@@ -1,15 +1,18 @@
 -- `boards::held::all_curves` meets its contract.
-use Prim.Native.Nat.{_+_, _≤_, _-_}
-use mathlib.Core.Path.{_≡_, refl, _∙_}
+use Prim.Native.Nat.{ℕ, _+_, _≤_, _<_, _-_}
+use mathlib.Core.Path.{_≡_, refl, sym, _∙_}
+use mathlib.Core.Logic.{inl, inr}
 use mathlib.Core.List.{List, _++_, map}
-use lib.ListN.{length, take, drop, replicate, length-append, length-map}
-use Rattle.laws.proofs.Lists.{copy-step, copy-past}
+use lib.ListN.{length, take, drop, getD, replicate, length-append, length-map, List·getD-append}
+use lib.Seq.{getD-append-add}
+use Rattle.laws.proofs.Lists.{copy-step, copy-past, getD-map}
 use Rattle.curve.specs.declared.Curve.{Curve}
 use Rattle.curve.specs.Free.{freeCurve}
 use Rattle.places.specs.Places.{places, mostCurves}
 use Rattle.records.specs.declared.EtRecord.{EtRecord}
 use Rattle.records.specs.Lives.{asCurve}
 use Rattle.rules.specs.Places.{recordPlaces}
+use Rattle.boards.proofs.Loops.{zeroRecord}
 use borrow.Author.Needs.{needs}
 use native.Mathlib.Omega.{arith}
 use Rattle.boards.proofs.held.all_curves.Statement.{statement}
@@ -20,6 +23,16 @@ whole curves ets = curves ++ map asCurve ets
 
 abbrev start : Curve → List Curve
 start none = replicate mostCurves none
+
+-- what stands at a place of the whole
+here : (curves : List Curve) (ets : List EtRecord) (i : ℕ) → length curves ≡ places → i < places → getD (whole curves ets) i freeCurve ≡ getD curves i freeCurve
+here curves ets i e h = List·getD-append curves (map asCurve ets) freeCurve i (omega arith)
+
+behind : (curves : List Curve) (ets : List EtRecord) (i : ℕ) → length curves ≡ places → places ≤ i
+    → getD (whole curves ets) i freeCurve ≡ asCurve (getD ets (i - places) zeroRecord)
+behind curves ets i e h =
+    let at : length curves + (i - places) ≡ i = omega arith in
+    (rw at at (getD-append-add curves (map asCurve ets) (i - places) freeCurve)) ∙ getD-map asCurve ets (i - places) zeroRecord
 
 abbrev Inv-loop : tie.InvT-loop
 Inv-loop curves ets all₀ i₀ all i =
@@ -35,14 +48,32 @@ free-curve-requires c κs = tt
 loop-holds : tie.Need-loop-holds Inv-loop μ-loop
 loop-holds c = (omega arith, search needs, search needs, refl, refl)
 
-curve-at-requires : tie.Need-curve-at-requires Inv-loop μ-loop
-curve-at-requires c κs = tt
+mul-curve : tie.Need-mul-curve Inv-loop μ-loop
+mul-curve c = omega arith
+
+array-copy-out-curve : tie.Need-array-copy-out-curve Inv-loop μ-loop
+array-copy-out-curve c = omega arith
 
 mul-all : tie.Need-mul-all Inv-loop μ-loop
 mul-all c = omega arith
 
 array-set-from-all : tie.Need-array-set-from-all Inv-loop μ-loop
 array-set-from-all c = omega arith
+
+mul-et : tie.Need-mul-et Inv-loop μ-loop
+mul-et c = omega arith
+
+array-copy-out-et : tie.Need-array-copy-out-et Inv-loop μ-loop
+array-copy-out-et c = omega arith
+
+as-curve-requires : tie.Need-as-curve-requires Inv-loop μ-loop
+as-curve-requires c κs = tt
+
+mul-all-2 : tie.Need-mul-all-2 Inv-loop μ-loop
+mul-all-2 c = omega arith
+
+array-set-from-all-2 : tie.Need-array-set-from-all-2 Inv-loop μ-loop
+array-set-from-all-2 c = omega arith
 
 add-i : tie.Need-add-i Inv-loop μ-loop
 add-i c = omega arith
@@ -54,16 +85,25 @@ loop-again : tie.Need-loop-again Inv-loop μ-loop
 loop-again c =
     let o = c .before .before in
     let a = o .before .before .args in
-    let s : length (whole (a .curves) (a .ets)) ≡ mostCurves = simp (length-append, length-map) (omega arith) in
-    let step = copy-step (whole (a .curves) (a .ets)) (start (o .before .free-curve .result)) (o .loop .i) freeCurve (omega arith) (omega arith) in
-    (omega arith, o .loop .inv .1, o .loop .inv .2, o .loop .inv .3, rw (c .curve-at .ensures, o .loop .inv .4) step)
+    let none = start (o .before .free-curve .result) in
+    let s : length (whole (a .t1) (a .t2)) ≡ mostCurves = simp (length-append, length-map) (omega arith) in
+    let step = copy-step (whole (a .t1) (a .t2)) none (o .loop .i) freeCurve (omega arith) (omega arith) in (
+      omega arith,
+      o .loop .inv .1,
+      o .loop .inv .2,
+      o .loop .inv .3,
+      elim (c .if1 .came) [
+        | inl p ↦ p .2 ∙ rw (o .loop .inv .4, sym (here (a .t1) (a .t2) (o .loop .i) (o .loop .inv .1) (omega arith))) step
+        | inr p ↦ p .3 ∙ rw (p .2 .ensures, o .loop .inv .4, sym (behind (a .t1) (a .t2) (o .loop .i) (o .loop .inv .1) (omega arith))) step
+      ],
+    )
 
 returns : tie.Need-returns Inv-loop μ-loop
 returns c =
     let o = c .before in
     let a = o .before .before .args in
-    let s : length (whole (a .curves) (a .ets)) ≡ mostCurves = simp (length-append, length-map) (omega arith) in
-    o .loop .inv .4 ∙ copy-past (whole (a .curves) (a .ets)) (start (o .before .free-curve .result)) (o .loop .i) (omega arith) (omega arith)
+    let s : length (whole (a .t1) (a .t2)) ≡ mostCurves = simp (length-append, length-map) (omega arith) in
+    o .loop .inv .4 ∙ copy-past (whole (a .t1) (a .t2)) (start (o .before .free-curve .result)) (o .loop .i) (omega arith) (omega arith)
 
 pub all-curves-spec : {M : Type 1} → statement M
 all-curves-spec =
@@ -73,9 +113,15 @@ all-curves-spec =
     μ-loop
     free-curve-requires
     loop-holds
-    curve-at-requires
+    mul-curve
+    array-copy-out-curve
     mul-all
     array-set-from-all
+    mul-et
+    array-copy-out-et
+    as-curve-requires
+    mul-all-2
+    array-set-from-all-2
     add-i
     loop-less
     loop-again
