@@ -72,9 +72,12 @@ fn goes_before(x: Candidate, y: Candidate) -> bool
 fn chosen_of(best: Candidate, next: Candidate) -> Candidate
     ensures { λ r. ⌜ r ≡ chosenOf best next ⌝ }
 {
-    let jb = best.judged;
     let jn = next.judged;
-    if jn.held & (!jb.held | goes_before(next, best)) {
+    if !jn.held {
+        return best;
+    }
+    let jb = best.judged;
+    if !jb.held | goes_before(next, best) {
         next
     } else {
         best

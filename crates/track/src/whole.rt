@@ -174,9 +174,16 @@ pub fn note_track(track: Track, judged: [Judged; CURVES]) -> Track
     ensures { λ r. ⌜ r ≡ notedAmong track judged ⌝ }
 {
     let curves = track.curves;
+    let sections = track.sections;
+    let stay = track.stay;
     let records = track.records;
-    let next = with_curves(track, places::note_all(curves, judged));
-    with_records(next, note_records(records, judged))
+    Track {
+        curves: places::note_all(curves, judged),
+        sections,
+        forty: track.forty,
+        stay,
+        records: note_records(records, judged),
+    }
 }
 
 fn lower(x: u16, y: u16) -> u16
