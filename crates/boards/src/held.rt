@@ -2,8 +2,7 @@
 ghost use mathlib.Core.Path.{_≡_};
 ghost use mathlib.Core.Bool.{cond, not, _&&_};
 ghost use mathlib.Core.List.{_++_, map};
-ghost use lib.ListN.{drop, getD};
-ghost use Rattle.curve.specs.Free.{freeCurve};
+ghost use lib.ListN.{drop};
 ghost use Rattle.places.specs.Places.{places};
 ghost use Rattle.records.specs.Lives.{isSuperseded, freeRecord, asCurve, movedRecord};
 ghost use Rattle.rules.specs.Odometer.{notedRecords};

@@ -865,7 +865,7 @@ here id category = newRecord id category 0 40 0
 
 abbrev pub recordCases : List Case
 recordCases =
-    -- undecided it is "wholly ineffective"; rows a to d, H records by main and F records by distant signals, R 0 and G 1
+    -- undecided it is "completely ineffective" (001, F4189); rows a to d, H records by main and F records by distant signals, R 0 and G 1
     after (here 3 1 ∷ []) (permitted 300 ∷ shows 255 0 0 0 ∷ messages 0 ∷ [])
     ∷ after (here 3 1 ∷ signal 0 0 ∷ []) (permitted 40 ∷ shows 3 1 0 0 ∷ messages 64 ∷ causesAre [] ∷ [])
     ∷ after (here 3 1 ∷ signal 0 1 ∷ []) (permitted 300 ∷ messages 0 ∷ [])

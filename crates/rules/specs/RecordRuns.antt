@@ -224,7 +224,7 @@ FreeRecordsStay =
 
 -- ---- past in B
 
--- "Past in B is noted as for curves": at a report in DA that finds or makes it active or locked, and of no other record
+-- "A curve's past in B is noted at reports in DA": that of a record at one that finds or makes it active or locked, and of no other record
 abbrev pub RecordPastIsNoted : Type 0
 RecordPastIsNoted =
     (stm : Stm) (x : Sent) (place : ℕ)
