@@ -1,6 +1,8 @@
 // Hands recorded commands to the unit with areas of any length, and prints the answer, what the area then holds and
 // the operand part. A record is the area's length, the command's length, and 32 bytes of which the command is the
 // first. Every area is filled with AA before its call.
+#![tactic(auto)]
+
 use rules::{Outcome, Stm};
 
 const RECORD: usize = 34;

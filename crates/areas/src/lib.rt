@@ -2,6 +2,8 @@
 // types are here too.
 //
 // No public function has a `requires`: each is defined at every value of its parameters.
+#![tactic(auto)]
+
 mod numbers;
 mod rows;
 mod stays;
@@ -13,7 +15,7 @@ pub use stays::{
 };
 
 // The areas.
-#[derive(Drop)]
+#[derive(Clone, Copy)]
 pub enum Area {
     NonEquipped,
     Partial,
@@ -24,7 +26,7 @@ pub enum Area {
 // The events of command 50, in the order of their numbers: a main or distant signal without full HT
 // information, a GMD, a balise error that deletes HT information, a group without overlap; entry to
 // non-equipped, HT and fully equipped.
-#[derive(Drop)]
+#[derive(Clone, Copy)]
 pub enum Event {
     Signal,
     GMD,
@@ -37,7 +39,7 @@ pub enum Event {
 
 // What VMAX takes in the partial area: the speed V_DARK of 001 while no GMD was passed in this stay, or
 // that of the last GMD board, in km/h.
-#[derive(Drop)]
+#[derive(Clone, Copy)]
 pub enum LineSpeed {
     Dark,
     Board(u16),
@@ -45,14 +47,14 @@ pub enum LineSpeed {
 
 // Whether the required overlapping information is there, or a group was without it: then with the ground
 // since the first such group, in cm.
-#[derive(Drop)]
+#[derive(Clone, Copy)]
 pub enum Overlap {
     Present,
     Missing(u16),
 }
 
 // The stay in an area: a change of area begins another.
-#[derive(Drop)]
+#[derive(Clone, Copy)]
 pub struct Stay {
     pub area: Area,
     pub line: LineSpeed,

@@ -1,6 +1,8 @@
 // ET boards (02, F-7; 001, 4.6.8): one record, from its board to its end, and the eight places of records.
 //
 // No public function has a `requires`: each is defined at every value of its parameters.
+#![tactic(auto)]
+
 mod held;
 mod letters;
 mod life;

@@ -2,6 +2,8 @@
 // leads until one has passed. P_INT settles by the feedback's own rule, `pressure::report`.
 //
 // No public function has a `requires`: each is defined at every value of its parameters.
+#![tactic(auto)]
+
 ghost use Rattle.std.specs.Prelude.{◌≡◌};
 ghost use Rattle.rules.specs.BrakeTest.{fresh_test, is_running, is_test_braking, has_passed, has_failed, begun_test, ended_test, left_test, is_unfit, phase_on, stage_of, has_dropped, braked_on, gone_on, tested_at, extra_left};
 

@@ -1,6 +1,8 @@
 // What brakes: the table of causes, the two brake checks, release, and what the table looks at.
 //
 // No public function has a `requires`: each is defined at every value of its parameters.
+#![tactic(auto)]
+
 pub mod causes;
 pub mod check;
 pub mod hold;

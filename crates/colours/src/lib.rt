@@ -2,6 +2,8 @@
 // "Report"; 02, F-4). Its types are here too.
 //
 // No public function has a `requires`: each is defined at every value of its parameters.
+#![tactic(auto)]
+
 mod numbers;
 mod rows;
 
@@ -9,14 +11,14 @@ pub use numbers::{bar_number, mode_number, showing_number};
 pub use rows::{ROWS, row_of, table};
 
 // What a report shows: no curve, or a curve in this interval.
-#[derive(Drop)]
+#[derive(Clone, Copy)]
 pub enum Showing {
     NoCurve,
     Curve(curve::Shown),
 }
 
 // What a row asks of a condition: nothing, that it holds, or that it does not.
-#[derive(Drop)]
+#[derive(Clone, Copy)]
 pub enum Condition {
     Either,
     Yes,
@@ -24,7 +26,7 @@ pub enum Condition {
 }
 
 // The bars: the table's column "Colour of the MAX SPEED BAR".
-#[derive(Drop)]
+#[derive(Clone, Copy)]
 pub enum Bar {
     Empty,
     LightGrey,
@@ -32,7 +34,7 @@ pub enum Bar {
 }
 
 // The modes: the table's column "Mode".
-#[derive(Drop)]
+#[derive(Clone, Copy)]
 pub enum Mode {
     Normal,
     PreIndication,
@@ -43,7 +45,7 @@ pub enum Mode {
 
 // A row: what it holds for, and its bar and mode. `past` is whether the permitted boundary is reached,
 // `sufficient` whether the drop is.
-#[derive(Drop)]
+#[derive(Clone, Copy)]
 pub struct Row {
     pub showing: Showing,
     pub past: Condition,

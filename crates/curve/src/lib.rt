@@ -2,6 +2,8 @@
 //
 // Speeds v are in cm/s, limits and targets in whole km/h, distances in cm, times in tenths of a
 // second, decelerations in mm/s². Every function answers at every value of its parameters.
+#![tactic(auto)]
+
 mod boundary;
 mod deceleration;
 mod free;
@@ -15,20 +17,20 @@ pub use lead::leads_of;
 pub use moved::moved_by;
 
 // The kinds of a curve: 0 speed target, 1 Expect Stop.
-#[derive(Drop)]
+#[derive(Clone, Copy)]
 pub enum Kind {
     SpeedTarget,
     ExpectStop,
 }
 
-#[derive(Drop)]
+#[derive(Clone, Copy)]
 pub enum Direction {
     Up,
     Down,
 }
 
 // A gradient in ‰.
-#[derive(Drop)]
+#[derive(Clone, Copy)]
 pub struct Gradient {
     pub direction: Direction,
     pub size: u8,
@@ -36,7 +38,7 @@ pub struct Gradient {
 
 // A curve, or a place that holds none. `distance` is the remaining d, `speed` the target or the
 // release speed, `past` whether it was once in B or later.
-#[derive(Drop)]
+#[derive(Clone, Copy)]
 pub struct Curve {
     pub distance: u32,
     pub speed: u16,
@@ -48,7 +50,7 @@ pub struct Curve {
 }
 
 // T_B and the gaps gC, gP and gBf; `extra` is what the leads add to T_B until a brake test has passed.
-#[derive(Drop)]
+#[derive(Clone, Copy)]
 pub struct Times {
     pub brake: u8,
     pub c: u8,
@@ -58,7 +60,7 @@ pub struct Times {
 }
 
 // The leads of the boundaries; E's is 0.
-#[derive(Drop)]
+#[derive(Clone, Copy)]
 pub struct Leads {
     pub d: u16,
     pub c: u16,
@@ -69,14 +71,14 @@ pub struct Leads {
 
 // What the boundary rule tells: whether the boundary is reached, and how many cm can still be covered
 // with it not reached (0 where it is, `NEVER` where it is not down to distance 0).
-#[derive(Drop)]
+#[derive(Clone, Copy)]
 pub struct Reach {
     pub reached: bool,
     pub left: u32,
 }
 
 // What the train brings to every curve: deceleration on level track, leads, F margin in km/h.
-#[derive(Drop)]
+#[derive(Clone, Copy)]
 pub struct Braking {
     pub level: u16,
     pub leads: Leads,
@@ -84,7 +86,7 @@ pub struct Braking {
 }
 
 // The computed intervals.
-#[derive(Drop)]
+#[derive(Clone, Copy)]
 pub enum Interval {
     A,
     Bf,
@@ -96,14 +98,14 @@ pub enum Interval {
 }
 
 // The intervals as they are shown.
-#[derive(Drop)]
+#[derive(Clone, Copy)]
 pub enum Shown {
     Ab,
     Computed(Interval),
 }
 
 // What a curve says at a speed.
-#[derive(Drop)]
+#[derive(Clone, Copy)]
 pub struct Judged {
     pub held: bool,
     pub interval: Interval,

@@ -1,4 +1,6 @@
 // Runs recorded curves through the curve rules and prints a line for each record; fields.rt has the bytes of one.
+#![tactic(auto)]
+
 mod fields;
 mod text;
 
@@ -8,7 +10,7 @@ use places::{CURVES, PLACES};
 use text::{put, put_flag, put_number};
 
 // The places after a record, and whether there was one.
-#[derive(Drop)]
+#[derive(Clone, Copy)]
 struct Outcome {
     read: bool,
     curves: [Curve; PLACES],

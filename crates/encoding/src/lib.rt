@@ -1,5 +1,7 @@
 // 01's numbers for answers, codes, states and orders, and the operands of the commands with their ranges.
 //
 // No public function has a `requires`: each is defined at every value of its parameters.
+#![tactic(auto)]
+
 pub mod fields;
 pub mod numbers;

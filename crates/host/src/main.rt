@@ -1,4 +1,6 @@
 // A host: it keeps a unit, hands it four commands, and prints what comes of each.
+#![tactic(auto)]
+
 use rules::Stm;
 
 fn print(text: &[u8], number: u8) {

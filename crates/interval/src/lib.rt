@@ -1,6 +1,8 @@
 // What a curve of 01, "Curves", says at a speed: its computed and its shown interval, its permitted speed, whether it
 // brakes, and how far it is to the next change of interval (02, F-1). Every function answers at every value of its
 // parameters.
+#![tactic(auto)]
+
 mod change;
 mod intervals;
 mod judging;

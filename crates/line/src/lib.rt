@@ -1,4 +1,6 @@
 // The line that the stream program prints for an answer.
+#![tactic(auto)]
+
 ghost use Rattle.std.specs.Prelude.{◌≡◌, cond, ◌∷◌, [], ◌++◌, ◌+◌, ◌≤◌, length, take, drop};
 ghost use Rattle.wire.specs.Bytes.{placed};
 ghost use Rattle.wire.specs.Text.{space};

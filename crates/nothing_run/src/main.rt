@@ -1,4 +1,6 @@
 // The stream program on no bytes at all.
+#![tactic(auto)]
+
 fn main() {
     stdio::run();
 }

@@ -1,6 +1,8 @@
 // The output of a stream: bytes are handed to the unit portion by portion, and a line is put for each answer.
 //
 // No public function has a `requires`: each is defined at every state, at every bytes and at every room.
+#![tactic(auto)]
+
 ghost use Rattle.std.specs.Prelude.{◌≡◌, ◌≤◌, eqb, length, take};
 ghost use Rattle.wire.specs.Bytes.{placed};
 ghost use Rattle.portions.specs.Portions.{given_of};
@@ -17,7 +19,7 @@ pub const OUTPUT: usize = (INPUT / SHORTEST + 2) * line::WIDTH;
 
 // What has come of bytes that were handed on: the unit's state, how many of them were used, how many bytes of output were
 // written, and whether the stream has ended.
-#[derive(Drop)]
+#[derive(Clone, Copy)]
 pub struct Handed {
     pub stm: Stm,
     pub used: usize,
@@ -25,7 +27,7 @@ pub struct Handed {
     pub ended: bool,
 }
 
-#[derive(Drop)]
+#[derive(Clone, Copy)]
 struct Told {
     stm: Stm,
     written: usize,

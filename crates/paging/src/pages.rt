@@ -19,7 +19,7 @@ const LAST_PAGE: u16 = 9999;
 pub const ADDED: usize = 2 * LINE;
 
 // The sheet after a command, and how many bytes were written for it.
-#[derive(Drop)]
+#[derive(Clone, Copy)]
 pub struct Put {
     pub sheet: Sheet,
     pub written: usize,

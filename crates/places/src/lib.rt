@@ -1,4 +1,6 @@
 // The places of curves: what is done to all of them, or asked of all.
+#![tactic(auto)]
+
 ghost use Rattle.std.specs.Prelude.{◌≡◌, min};
 ghost use Rattle.places.specs.Places.{moved_here, moved_all, none_judged, judged_here, judged_all, noted_all, permitted_here, least_permitted, brakes_from, any_brakes};
 

@@ -1,6 +1,8 @@
 // A stream as the unit is given it: portion by portion, out of bytes that come in reads.
 //
 // No public function has a `requires`: each is defined at every input.
+#![tactic(auto)]
+
 mod bytes;
 mod next;
 

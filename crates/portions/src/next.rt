@@ -4,7 +4,7 @@ ghost use Rattle.portions.specs.Portions.{next_portion, portion_length, is_last}
 
 use wire::{Next, next_command};
 
-#[derive(Drop)]
+#[derive(Clone, Copy)]
 pub enum Portion {
     // There is none, or it is not whole yet.
     Nothing,

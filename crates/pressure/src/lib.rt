@@ -3,6 +3,8 @@
 // A report's P_EXT gives the pressure P_INT, moves the feedback's phase on, and with it the
 // reference P_REF. Every figure is in kPa, in f32. The caller keeps what a report returns, and hands
 // its phase and its record of pressures to the next one.
+#![tactic(auto)]
+
 mod convert;
 mod phases;
 mod reference;
@@ -14,14 +16,14 @@ ghost use Rattle.pressure.specs.Report.{fresh_feedback, reported};
 pub use reference::drop_of;
 
 // Where the brake pressure is taken: in the brake pipe, or in a cylinder.
-#[derive(Drop)]
+#[derive(Clone, Copy)]
 pub enum Feed {
     Pipe,
     Cylinder,
 }
 
 // Pressure (P_INT) and reference (P_REF, 0 while there is none), in kPa.
-#[derive(Drop)]
+#[derive(Clone, Copy)]
 pub struct Pressures {
     pub pressure: f32,
     pub reference: f32,
@@ -29,7 +31,7 @@ pub struct Pressures {
 
 // The feedback's phase. Settling has the saved pressure P0, and how many further reports were within
 // 20 kPa of it. Set has P_REF, and how many reports came since it was set or last due for a change.
-#[derive(Drop)]
+#[derive(Clone, Copy)]
 pub enum Phase {
     Waiting,
     Settling { saved: f32, reports: u8 },
@@ -37,7 +39,7 @@ pub enum Phase {
 }
 
 // The feedback after a report; `fault` is TRYCKGIVARFEL.
-#[derive(Drop)]
+#[derive(Clone, Copy)]
 pub struct Measured {
     pub phase: Phase,
     pub pressures: Pressures,

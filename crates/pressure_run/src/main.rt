@@ -3,13 +3,15 @@
 // A record has 8 bytes: what the report finds (0 a fresh feedback, 1 the one that the last record
 // left, 2 a reference whose tenth report this is), the feed (0 pipe, 1 cylinder), P_FULL in kPa,
 // P_EXT in half kPa, signed, and the reference of a 2 in half kPa; numbers high byte first.
+#![tactic(auto)]
+
 mod text;
 
 use pressure::{Feed, Measured, Phase, Pressures};
 use text::{put, put_kpa};
 
 // The feedback after a record, and whether there was one.
-#[derive(Drop)]
+#[derive(Clone, Copy)]
 struct Outcome {
     read: bool,
     feedback: Measured,

@@ -1,6 +1,8 @@
 // The trip sheet of a stream: bytes are handed to the unit portion by portion, and the lines that are due are printed.
 //
 // No public function has a `requires`: each is defined at every trip, at every bytes and at every room.
+#![tactic(auto)]
+
 ghost use Rattle.std.specs.Prelude.{◌≡◌, ◌≤◌, eqb, length, take};
 ghost use Rattle.wire.specs.Bytes.{placed};
 ghost use Rattle.portions.specs.Portions.{given_of};
@@ -18,7 +20,7 @@ use wire::{REPORT_LENGTH, SHORTEST};
 pub const OUTPUT: usize = (INPUT / SHORTEST + 2) * ADDED;
 
 // A unit and the sheet of its trip.
-#[derive(Drop)]
+#[derive(Clone, Copy)]
 pub struct Trip {
     pub stm: Stm,
     pub sheet: Sheet,
@@ -26,7 +28,7 @@ pub struct Trip {
 
 // What has come of bytes that were handed on: where the trip stands, how many of them were used, how many bytes of output were
 // written, and whether the stream has ended.
-#[derive(Drop)]
+#[derive(Clone, Copy)]
 pub struct Handed {
     pub trip: Trip,
     pub used: usize,
@@ -34,7 +36,7 @@ pub struct Handed {
     pub ended: bool,
 }
 
-#[derive(Drop)]
+#[derive(Clone, Copy)]
 struct Told {
     trip: Trip,
     written: usize,

@@ -1,6 +1,8 @@
 // The answer to every command: the refusals of 01 and of 02, F-3, F-6 and F-7, in their order, and the repeat.
 //
 // No public function has a `requires`: each is defined at every value of its parameters.
+#![tactic(auto)]
+
 ghost use Rattle.std.specs.Prelude.{◌≡◌, not, ◌&&◌, ◌||◌, ◌∷◌, [], ◌+◌, eqb};
 ghost use Rattle.wire.specs.Codes.{longest};
 ghost use Rattle.wire.specs.Bytes.{same_bytes};
@@ -162,7 +164,7 @@ fn repeats_nothing(track: Track, code: Code, id: u8) -> bool
 }
 
 // Which refusals from 5 on apply, and whether the command is a repeat.
-#[derive(Drop)]
+#[derive(Clone, Copy)]
 struct Tests {
     unstarted: bool,
     zero: bool,

@@ -3,11 +3,12 @@
 //
 // Speeds v are in cm/s, limits in whole km/h, ground in cm, times in tenths of a second,
 // decelerations in mm/s², pressures in kPa.
+#![tactic(auto)]
 
 // ---- answers and codes
 
 // The answers (01, "Answers"; 02, F-3, F-6 and F-7): accepted, again, and the refusals 1 to 18 in their order.
-#[derive(Drop)]
+#[derive(Clone, Copy)]
 pub enum Answer {
     Accepted,
     Again,
@@ -32,7 +33,7 @@ pub enum Answer {
 }
 
 // The commands (01, "Commands"; 02, F-3, F-6 and F-7), in the order of their codes.
-#[derive(Drop)]
+#[derive(Clone, Copy)]
 pub enum Code {
     Start,
     ChangeState,
@@ -53,7 +54,7 @@ pub enum Code {
 
 // ---- the state
 
-#[derive(Drop)]
+#[derive(Clone, Copy)]
 pub enum State {
     DE,
     CS,
@@ -63,7 +64,7 @@ pub enum State {
 }
 
 // Whether there has been a start, and the state.
-#[derive(Drop)]
+#[derive(Clone, Copy)]
 pub struct Control {
     pub started: bool,
     pub state: State,
@@ -72,7 +73,7 @@ pub struct Control {
 // The train data of a start. `softly` is flag bit 0, `feed` flag bit 1, `full` and `soft` the
 // decelerations, `margin` the F margin, `emergency` the overspeed emergency margin, `sufficient` the
 // sufficient application, `pressure` P_FULL, `check` T_EBCHK.
-#[derive(Drop)]
+#[derive(Clone, Copy)]
 pub struct Train {
     pub softly: bool,
     pub feed: pressure::Feed,
@@ -89,7 +90,7 @@ pub struct Train {
 }
 
 // A section, or a place that holds none. `ground` is the ground moved since its end was told.
-#[derive(Drop)]
+#[derive(Clone, Copy)]
 pub struct Section {
     pub held: bool,
     pub id: u8,
@@ -100,7 +101,7 @@ pub struct Section {
 
 // What the track has told: curves, sections, the 40 of an unexpected stop, the stay in an area (02, F-6),
 // and the ET records (02, F-7).
-#[derive(Drop)]
+#[derive(Clone, Copy)]
 pub struct Track {
     pub curves: [curve::Curve; places::PLACES],
     pub sections: [Section; places::PLACES],
@@ -110,7 +111,7 @@ pub struct Track {
 }
 
 // The causes, in the order of their bits 0 to 11.
-#[derive(Drop)]
+#[derive(Clone, Copy)]
 pub enum Cause {
     Overspeed,
     EmergencyOverspeed,
@@ -127,7 +128,7 @@ pub enum Cause {
 }
 
 // Which causes stand.
-#[derive(Drop)]
+#[derive(Clone, Copy)]
 pub struct Causes {
     pub overspeed: bool,
     pub excess: bool,
@@ -145,7 +146,7 @@ pub struct Causes {
 
 // How bit 9 is held (02, F-2): no balise error has decided it, or the last one did, at a speed above
 // 80 km/h, or at or below it; then with the number of further reports in DA, kept up to 20.
-#[derive(Drop)]
+#[derive(Clone, Copy)]
 pub enum Hold {
     Undecided,
     High,
@@ -154,7 +155,7 @@ pub enum Hold {
 
 // What has been noted since the command that ordered bits 5, 6, 8 and 9: a halt, a measured
 // deceleration, a halt, the hold.
-#[derive(Drop)]
+#[derive(Clone, Copy)]
 pub struct Since {
     pub aimed: bool,
     pub unexpected: bool,
@@ -163,7 +164,7 @@ pub struct Since {
 }
 
 // A brake check: no order to check, the count since the order began, or satisfied or judged.
-#[derive(Drop)]
+#[derive(Clone, Copy)]
 pub enum Check {
     Idle,
     Counting(u8),
@@ -171,7 +172,7 @@ pub enum Check {
 }
 
 // The ground rolled from standstill with neutral throughout, kept up to 501; ended until the next halt.
-#[derive(Drop)]
+#[derive(Clone, Copy)]
 pub enum Roll {
     Ended,
     Rolled(u16),
@@ -179,7 +180,7 @@ pub enum Roll {
 
 // What brakes. `service` and `emergency` are the checks of bit 11 and of the emergency order,
 // `drift` is DRIFTBROMSFEL, `failed` NÖDBROMSFEL.
-#[derive(Drop)]
+#[derive(Clone, Copy)]
 pub struct Brakes {
     pub causes: Causes,
     pub since: Since,
@@ -192,7 +193,7 @@ pub struct Brakes {
 
 // The stage of brake test A (02, F-3): none runs; P_INT settles, by a phase of the feedback's rule that
 // is the test's own; or it brakes, with the steady pressure and the number of reports since it settled.
-#[derive(Drop)]
+#[derive(Clone, Copy)]
 pub enum Stage {
     Idle,
     Settling(pressure::Phase),
@@ -200,7 +201,7 @@ pub enum Stage {
 }
 
 // How the last test since the start has ended: none has, it passed, it failed.
-#[derive(Drop)]
+#[derive(Clone, Copy)]
 pub enum Verdict {
     Pending,
     Passed,
@@ -208,14 +209,14 @@ pub enum Verdict {
 }
 
 // Brake test A: its stage, and beside it the result of the last one that has ended.
-#[derive(Drop)]
+#[derive(Clone, Copy)]
 pub struct BrakeTest {
     pub stage: Stage,
     pub result: Verdict,
 }
 
 // What the last odometer report leaves: its speed and buttons.
-#[derive(Drop)]
+#[derive(Clone, Copy)]
 pub struct Kept {
     pub speed: u16,
     pub loss: bool,
@@ -224,14 +225,14 @@ pub struct Kept {
 }
 
 // The last accepted command, with 0 after its end, and the report that it was given.
-#[derive(Drop)]
+#[derive(Clone, Copy)]
 pub struct Last {
     pub bytes: [u8; wire::LONGEST],
     pub report: [u8; wire::REPORT_LENGTH],
 }
 
 // The unit's state.
-#[derive(Drop)]
+#[derive(Clone, Copy)]
 pub struct Stm {
     pub control: Control,
     pub train: Train,
@@ -246,7 +247,7 @@ pub struct Stm {
 // ---- an odometer report
 
 // The operands of an odometer report: `measured` in mm/s², `external` P_EXT in half kPa.
-#[derive(Drop)]
+#[derive(Clone, Copy)]
 pub struct Reading {
     pub speed: u16,
     pub moved: u16,
@@ -260,7 +261,7 @@ pub struct Reading {
 
 // What the table of causes looks at: the speed, VMAX and the emergency margin; whether a curve brakes
 // from D, E or F on; whether the drop is insufficient; HALKA; the notes; over 500 cm rolled.
-#[derive(Drop)]
+#[derive(Clone, Copy)]
 pub struct Seen {
     pub speed: u16,
     pub vmax: u16,
@@ -277,7 +278,7 @@ pub struct Seen {
 // ---- what is shown
 
 // The brake orders.
-#[derive(Drop)]
+#[derive(Clone, Copy)]
 pub enum Order {
     Nothing,
     Soft,
@@ -286,7 +287,7 @@ pub enum Order {
 }
 
 // A place with its curve and what the curve says: one that may be shown. `et` is whether it is an ET record's.
-#[derive(Drop)]
+#[derive(Clone, Copy)]
 pub struct Candidate {
     pub et: bool,
     pub curve: curve::Curve,
@@ -296,7 +297,7 @@ pub struct Candidate {
 // ---- the call
 
 // The outcome of a call: the answer and the next state.
-#[derive(Drop)]
+#[derive(Clone, Copy)]
 pub struct Outcome {
     pub answer: Answer,
     pub stm: Stm,

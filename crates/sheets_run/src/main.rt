@@ -1,5 +1,7 @@
 // Prints the sheets of recorded streams, each handed on in one piece, and a line after each. A record is the stream's length in two bytes,
 // and 1,024 bytes of which the stream is the first.
+#![tactic(auto)]
+
 const STREAM: usize = 1024;
 
 const RECORD: usize = 2 + STREAM;

@@ -2,6 +2,8 @@
 //
 // What is handed on, and which bytes are written for it, is proved in `output`. Here nothing is decided: a turn is a read, that
 // function, a write.
+#![tactic(auto)]
+
 ghost use Rattle.std.specs.Prelude.{◌≡◌, ◌≤◌, length, take};
 ghost use Rattle.std.proofs.Math.Seq.{slice};
 ghost use Rattle.wire.specs.Bytes.{placed};

@@ -2,6 +2,8 @@
 // accepted is decided in `refusals`, and the call that puts the two together is in `unit`.
 //
 // No public function has a `requires`: each is defined at every value of its parameters.
+#![tactic(auto)]
+
 mod commands;
 mod odometer;
 mod report;

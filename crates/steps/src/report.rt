@@ -30,7 +30,7 @@ use track::whole::{all_curves, braking_of, judge_now, permitted_speed, vmax_of};
 use wire::{REPORT_LENGTH, high, high_pair, low, low_pair};
 
 // The four bytes of what is shown.
-#[derive(Drop)]
+#[derive(Clone, Copy)]
 struct Shown {
     id: u8,
     interval: u8,

@@ -1,4 +1,6 @@
 // The stream program on a whole command and three bytes more.
+#![tactic(auto)]
+
 fn main() {
     stdio::run();
 }

@@ -1,6 +1,8 @@
 // The trip sheet of 02: raw command bytes on standard input, pages of lines on standard output.
 //
 // What is printed is proved in `printing`. Here nothing is decided: a turn is a read, that function, a write.
+#![tactic(auto)]
+
 use portions::INPUT;
 use printing::OUTPUT;
 

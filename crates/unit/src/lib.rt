@@ -2,6 +2,8 @@
 // bytes and the report area are lent.
 //
 // No public function has a `requires`: each is defined at every state, at every bytes and at every area.
+#![tactic(auto)]
+
 ghost use Rattle.std.specs.Prelude.{◌≡◌, true, false, cond, eqb, length};
 ghost use Rattle.wire.specs.Form.{report_length, operand_part};
 ghost use Rattle.rules.specs.Numbers.{is_accepted, is_refused};

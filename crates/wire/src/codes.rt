@@ -3,7 +3,7 @@ ghost use Rattle.std.specs.Prelude.{◌≡◌};
 ghost use Rattle.wire.specs.Codes.{length_of};
 
 // A row of the table: a code and the whole length of its command, in bytes.
-#[derive(Drop)]
+#[derive(Clone, Copy)]
 pub struct Row {
     pub code: u8,
     pub length: usize,
@@ -82,7 +82,7 @@ pub const COMMANDS: [Row; CODES] = [
 ];
 
 // The whole length that the table gives a code, or that the byte is no code.
-#[derive(Drop)]
+#[derive(Clone, Copy)]
 pub enum Length {
     Bytes(usize),
     NoCode,

@@ -8,7 +8,7 @@ use crate::codes::{Length, length_of};
 pub const REPORT_LENGTH: usize = 19;
 
 // The refusal that a command gets by its form, and `Whole` where it gets none of the four.
-#[derive(Drop)]
+#[derive(Clone, Copy)]
 pub enum Form {
     // 1: the report area isn't of the report's length.
     WrongArea,

@@ -2,6 +2,8 @@
 // stream, numbers high byte first, equal and copied bytes, and digits in ASCII.
 //
 // No public function has a `requires`: each is defined at every input.
+#![tactic(auto)]
+
 mod bytes;
 mod codes;
 mod form;

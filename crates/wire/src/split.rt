@@ -4,7 +4,7 @@ ghost use Rattle.wire.specs.Split.{next_command, next_refusal, rest_refusal};
 
 use crate::codes::{Length, length_of};
 
-#[derive(Drop)]
+#[derive(Clone, Copy)]
 pub enum Next {
     // No bytes are left.
     End,
