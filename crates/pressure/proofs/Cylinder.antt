@@ -132,6 +132,8 @@ near_of_value (fin t m e) g u p w U v a = (
   le_of_mul-le-mul_right {k = u} (omega (arith, mul-le-mul_right (down e) a.0, ap (λ (z : ℕ). z * w) v.1)) U,
   le_of_mul-le-mul_right {k = u} (omega (arith, mul-le-mul_right (down e) a.1, ap (λ (z : ℕ). z * w) v.1)) U,
 )
+near_of_value lib.Ieee.nan g u p w U v a = elim v [ ]
+near_of_value (lib.Ieee.inf _) g u p w U v a = elim v [ ]
 
 -- a quotient g / u near to a / c, of no more than 955
 units_le : (g a c u v : ℕ) → 0 < c → u ≡ 65536 * v → a ≤ 955 * c → 2 * (g * c) ≤ 2 * (a * u) + c * (4 * v) → g ≤ 1000 * u

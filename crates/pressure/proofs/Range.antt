@@ -91,11 +91,15 @@ round_up_to a c n C h is =
 in_range_plus : (x : Float) → UpTo 1103 x → InRange x
 in_range_plus (fin false m e) h = h.1
 in_range_plus (fin true m e) h = absurd (true≢false h.0)
+in_range_plus nan h = elim h [ ]
+in_range_plus (inf _) h = elim h [ ]
 
 in_range_minus : (x : Float) → UpTo 1 x → InRange (neg x)
 unfolding neg
 in_range_minus (fin false m e) h = rw one-mul at h.1
 in_range_minus (fin true m e) h = absurd (true≢false h.0)
+in_range_minus nan h = elim h [ ]
+in_range_minus (inf _) h = elim h [ ]
 
 highest : round binary32 false 1103 2 ≡ fin false 1103 (negsuc 0)
 unfolding round
@@ -139,6 +143,9 @@ converted_limits Cylinder full x = limited_limits (sub binary32 (kpa 500) (div b
 
 limited_in_range : (p : Float) → IsLimited p → InRange p
 limited_in_range (fin false m e) h = omega arith
+limited_in_range nan h = elim h [ ]
+limited_in_range (inf _) h = elim h [ ]
+limited_in_range (fin true m e) h = elim h [ ]
 
 -- ---- the change
 
@@ -163,6 +170,14 @@ raised (fin true m e) (fin false n d) h l t =
     let less : M * 2 < 3 * D = omega arith in
     rw (add_at binary32 (fin true m e) (halved_of (pos 3)) true false M D 3 2 D-pos (lit< tt) (own_value true m e) (halving_is_exact (pos 3) (lit< tt)))
     (unfold sum in rw (lt-ltb (M * 2) (3 * D) less) (rounds_plus (3 * D - M * 2) (D * 2) (mul-pos (down_pos e) (lit< tt)) (omega arith)))
+raised nan p h l t = elim h [ ]
+raised (inf _) p h l t = elim h [ ]
+raised (fin false m e) nan h l t = elim l [ ]
+raised (fin false m e) (inf _) h l t = elim l [ ]
+raised (fin false m e) (fin true n d) h l t = elim l [ ]
+raised (fin true m e) nan h l t = elim l [ ]
+raised (fin true m e) (inf _) h l t = elim l [ ]
+raised (fin true m e) (fin true n d) h l t = elim l [ ]
 
 -- above a limited pressure 0.5 can be taken
 lowered : (r p : Float) → InRange r → IsLimited p → lt p r ≡ true → InRange (sub binary32 r (halved_of (pos 1)))
@@ -178,6 +193,14 @@ lowered (fin false m e) (fin false n d) h l t =
           (rounds_plus (M * 2 - 1 * D) (D * 2) (mul-pos (down_pos e) (lit< tt)) (omega arith))
     ])
 lowered (fin true m e) (fin false n d) h l t = absurd (false≢true t)
+lowered nan p h l t = elim h [ ]
+lowered (inf _) p h l t = elim h [ ]
+lowered (fin false m e) nan h l t = elim l [ ]
+lowered (fin false m e) (inf _) h l t = elim l [ ]
+lowered (fin false m e) (fin true n d) h l t = elim l [ ]
+lowered (fin true m e) nan h l t = elim l [ ]
+lowered (fin true m e) (inf _) h l t = elim l [ ]
+lowered (fin true m e) (fin true n d) h l t = elim l [ ]
 
 none : InRange (kpa 0)
 unfolding of_int
@@ -192,6 +215,8 @@ at_least (fin true m e) h =
       | no l ↦ rw (le-ltb (m * up e * 2) (1 * down e) (omega arith), eq-eqb (1 * down e) (m * up e * 2) (omega arith)) tt
     ]
 at_least (fin false m e) h = rw (lt-ltb 0 (1 * down e + m * up e * 2) (omega (arith, down_pos e))) tt
+at_least nan h = elim h [ ]
+at_least (inf _) h = elim h [ ]
 
 at_most : (r : Float) → InRange r → T (le r (fin false 1103 (negsuc 0)))
 unfolding le
@@ -201,6 +226,8 @@ at_most (fin false m e) h =
       | yes l ↦ rw (lt-ltb (m * up e * 2) (1103 * down e) l) tt
       | no l ↦ rw (le-ltb (m * up e * 2) (1103 * down e) (omega arith), eq-eqb (m * up e * 2) (1103 * down e) (omega arith)) tt
     ]
+at_most nan h = elim h [ ]
+at_most (inf _) h = elim h [ ]
 
 in_half_kpa : (r : Float) → InRange r → T (le (halved_of (negsuc 0)) r) × T (le r (halved_of (pos 1103)))
 unfolding halved_of of_int div

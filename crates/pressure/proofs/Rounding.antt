@@ -28,6 +28,8 @@ use lib.Ieee.Positive.{first_pos}
 pub rescaled : (x : Float) (s : Bool) (a c b d : ℕ) → 0 < c → a * d ≡ b * c → HasValue x s a c → HasValue x s b d
 rescaled (fin t m e) s a c b d C h v =
     (v.0, eq_of_mul-eq-mul_right c C (m * up e * d) (b * down e) (omega (arith, ap (λ (z : ℕ). z * d) v.1, ap (λ (z : ℕ). z * down e) h)))
+rescaled lib.Ieee.nan s a c b d C h v = elim v [ ]
+rescaled (lib.Ieee.inf _) s a c b d C h v = elim v [ ]
 
 -- whole numbers up to 2 ^ prec are exact
 pub whole_value : (f : Format) (n : ℕ) → n ≤ 2 ^ prec f → HasValue (of_int f (pos n)) false n 1
@@ -43,6 +45,8 @@ negative_value f n h = round_whole f true (suc n) h
 pub neg_value : (x : Float) (s : Bool) (a c : ℕ) → HasValue x s a c → HasValue (neg x) (not s) a c
 unfolding neg
 neg_value (fin t m e) s a c h = (ap not h.0, h.1)
+neg_value lib.Ieee.nan s a c h = elim h [ ]
+neg_value (lib.Ieee.inf _) s a c h = elim h [ ]
 
 -- what a choice has for a value, if each part has it where the test picks that part
 pub cond_value : (t : Bool) (x y : Float) (s : Bool) (a c : ℕ) → (t ≡ true → HasValue x s a c) → (t ≡ false → HasValue y s a c) → HasValue (cond t x y) s a c
@@ -72,6 +76,10 @@ lt_at (fin s' m e) (fin t' n g) s t a c b d C D h k =
     ap₂ (λ (i j : Bool). below i (m * up e * down g) j (n * up g * down e)) h.0 k.0
     ∙ scaled_below s t (m * up e * down g) (n * up g * down e) (a * d) (b * c) (c * d) (down e * down g) (mul-pos C D) (mul-pos (down_pos e) (down_pos g))
     (omega (arith, ap (λ (z : ℕ). z * (down g * d)) h.1)) (omega (arith, ap (λ (z : ℕ). z * (down e * c)) k.1))
+lt_at lib.Ieee.nan y s t a c b d C D h k = elim h [ ]
+lt_at (lib.Ieee.inf _) y s t a c b d C D h k = elim h [ ]
+lt_at (fin s' m e) lib.Ieee.nan s t a c b d C D h k = elim k [ ]
+lt_at (fin s' m e) (lib.Ieee.inf _) s t a c b d C D h k = elim k [ ]
 
 -- a float below a whole number
 pub lt_whole : (f : Format) (x : Float) (s : Bool) (n d k : ℕ) → 0 < d → k ≤ 2 ^ prec f → HasValue x s n d → lt x (of_int f (pos k)) ≡ below s n false (k * d)
@@ -90,6 +98,10 @@ mul_at f (fin s' m e) (fin t' n g) s t a c b d C D h k =
     ap₂ (λ (i j : Bool). round f (unlike i j) (m * up e * (n * up g)) (down e * down g)) h.0 k.0
     ∙ round_same f (unlike s t) (m * up e * (n * up g)) (down e * down g) (a * b) (c * d) (mul-pos (down_pos e) (down_pos g)) (mul-pos C D)
     (omega (arith, ap (λ (z : ℕ). z * (n * up g * d)) h.1, ap (λ (z : ℕ). z * (a * down e)) k.1))
+mul_at f lib.Ieee.nan y s t a c b d C D h k = elim h [ ]
+mul_at f (lib.Ieee.inf _) y s t a c b d C D h k = elim h [ ]
+mul_at f (fin s' m e) lib.Ieee.nan s t a c b d C D h k = elim k [ ]
+mul_at f (fin s' m e) (lib.Ieee.inf _) s t a c b d C D h k = elim k [ ]
 
 -- m * e / g is b / c, above 0
 some_digits : (m e b c g : ℕ) → 0 < b → 0 < g → m * e * c ≡ b * g → 0 < m * e
@@ -105,6 +117,10 @@ div_at f (fin s' m e) (fin t' n g) s t a c b d C D B h k =
     (ap₂ (λ (i j : Bool). round f (unlike i j) (m * up e * down g) (n * up g * down e)) h.0 k.0
     ∙ round_same f (unlike s t) (m * up e * down g) (n * up g * down e) (a * d) (b * c) (mul-pos N (down_pos e)) (mul-pos B C)
     (omega (arith, ap (λ (z : ℕ). z * (b * down g)) h.1, ap (λ (z : ℕ). z * (a * down e)) k.1)))
+div_at f lib.Ieee.nan y s t a c b d C D B h k = elim h [ ]
+div_at f (lib.Ieee.inf _) y s t a c b d C D B h k = elim h [ ]
+div_at f (fin s' m e) lib.Ieee.nan s t a c b d C D B h k = elim k [ ]
+div_at f (fin s' m e) (lib.Ieee.inf _) s t a c b d C D B h k = elim k [ ]
 
 -- a difference cut off at 0, times k
 pub sub_mul : (p q k : ℕ) → (p - q) * k ≡ p * k - q * k
@@ -133,6 +149,10 @@ add_at f (fin s' m e) (fin t' n g) s t a c b d C D h k =
     ap₂ (λ (i j : Bool). sum f i (m * up e * down g) j (n * up g * down e) (down e * down g)) h.0 k.0
     ∙ scaled_sum f s t (m * up e * down g) (n * up g * down e) (down e * down g) (a * d) (b * c) (c * d) (mul-pos (down_pos e) (down_pos g)) (mul-pos C D)
     (omega (arith, ap (λ (z : ℕ). z * (down g * d)) h.1)) (omega (arith, ap (λ (z : ℕ). z * (down e * c)) k.1))
+add_at f lib.Ieee.nan y s t a c b d C D h k = elim h [ ]
+add_at f (lib.Ieee.inf _) y s t a c b d C D h k = elim h [ ]
+add_at f (fin s' m e) lib.Ieee.nan s t a c b d C D h k = elim k [ ]
+add_at f (fin s' m e) (lib.Ieee.inf _) s t a c b d C D h k = elim k [ ]
 
 pub sub_at : (f : Format) (x y : Float) (s t : Bool) (a c b d : ℕ) → 0 < c → 0 < d → HasValue x s a c → HasValue y t b d
     → sub f x y ≡ sum f s (a * d) (not t) (b * c) (c * d)

@@ -1,0 +1,16 @@
+-- p u b   r e t u r n s - e l s e - s o u r c e - t a r g e t   :   g o a l . r e t u r n s - e l s e - s o u r c e - t a r g e t   u n f o l d i n g   c o p i e d   r e t u r n s - e l s e - s o u r c e - t a r g e t   c   =
+use Prim.Native.Nat.{◌≤◌, ◌-◌}
+use mathlib.Core.Path.{◌≡◌, refl, ◌∙◌}
+use mathlib.Core.List.{◌++◌}
+use native.Mathlib.Omega.{arith}
+use borrow.Author.Tests.{eq-eqb, ne_eqb}
+use lib.ListN.{take, drop, length, length-set}
+use Rattle.wire.specs.Bytes.{copied}
+use Rattle.laws.proofs.Lists.{copy_step, copy_past}
+use Rattle.wire.proofs.bytes.copy_whole.Given as goal
+
+abbrev pub invariant-loop-i : goal.invariant-loop-i
+invariant-loop-i l = (l.i ≤ length l.source) × (length l.target ≡ length l.initial.target) × (l.target ≡ take l.i l.source ++ drop l.i l.initial.target)
+
+abbrev pub decreases-loop-i : goal.decreases-loop-i
+decreases-loop-i l = length l.source - l.i

@@ -1,0 +1,14 @@
+-- p u b   r e t u r n s   :   g o a l . r e t u r n s   u n f o l d i n g   c o m m a n d s   r e t u r n s   c   =
+use Prim.Native.Nat.{◌≤◌, ◌-◌}
+use mathlib.Core.Path.{◌≡◌, refl, sym, ◌∙◌}
+use native.Mathlib.Omega.{arith}
+use lib.ListN.{length, drop}
+use Rattle.wire.specs.Codes.{commands, length_in, length_of}
+use Rattle.wire.proofs.Table.{look_here, look_on, look_past}
+use Rattle.wire.proofs.codes.length_of.Given as goal
+
+abbrev pub invariant-loop-i : goal.invariant-loop-i
+invariant-loop-i l = (l.i ≤ length commands) × (length_in (drop l.i l.table) l.code ≡ length_of l.code)
+
+abbrev pub decreases-loop-i : goal.decreases-loop-i
+decreases-loop-i l = length commands - l.i

@@ -1,0 +1,9 @@
+-- p u b   r e t u r n s - e l s e - a t - s   :   g o a l . r e t u r n s - e l s e - a t - s   r e t u r n s - e l s e - a t - s   c   =
+use native.Mathlib.Omega.{arith}
+use borrow.Author.Rules.{rules}
+use mathlib.Core.Path.{sym}
+use lib.ListN.{get_or-eq_default}
+use Rattle.wire.proofs.numbers.byte_at.Goals as goal
+
+pub returns-else-at-s : goal.returns-else-at-s
+returns-else-at-s c = sym (get_or-eq_default c.args.s.now 0 c.if-at-s.false)

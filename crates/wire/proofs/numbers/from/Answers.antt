@@ -1,0 +1,17 @@
+-- p u b   r e t u r n s - e l s e - a t - s   :   g o a l . r e t u r n s - e l s e - a t - s   r e t u r n s - e l s e - a t - s   c   =
+use Prim.Native.Nat.{◌-◌}
+use borrow.Author.Rules.{rules}
+use native.Mathlib.Omega.{arith}
+use native.Mathlib.Nat.{le_of_lt}
+use mathlib.Core.Path.{sym}
+use lib.ListN.{length, drop, length-drop, drop_of_length-le}
+use lib.Seq.{take_all}
+use Rattle.wire.proofs.numbers.from.Goals as goal
+
+pub returns-then-at-s : goal.returns-then-at-s
+returns-then-at-s c =
+    let a = c.args in
+    take_all (length a.s.now - a.at) (drop a.at a.s.now) (simp length-drop (omega arith))
+
+pub returns-else-at-s : goal.returns-else-at-s
+returns-else-at-s c = sym (drop_of_length-le c.args.s.now (le_of_lt c.if-at-s.false))

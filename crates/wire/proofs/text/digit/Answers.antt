@@ -1,0 +1,10 @@
+-- p u b   r e t u r n s - e l s e - l o w - l t 1 0   :   g o a l . r e t u r n s - e l s e - l o w - l t 1 0   r e t u r n s - e l s e - l o w - l t 1 0   c   =
+use borrow.Author.Rules.{rules}
+use borrow.Author.Tests.{lt-ltb, le-ltb}
+use Rattle.wire.proofs.text.digit.Goals as goal
+
+pub returns-then-low-lt10 : goal.returns-then-low-lt10
+returns-then-low-lt10 c = simp (lt-ltb _ _ c.if-low-lt10.true)
+
+pub returns-else-low-lt10 : goal.returns-else-low-lt10
+returns-else-low-lt10 c = simp (le-ltb _ _ c.if-low-lt10.false)
