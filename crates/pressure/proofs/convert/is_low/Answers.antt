@@ -1,0 +1,9 @@
+-- p u b   r e t u r n s   :   g o a l . r e t u r n s   u n f o l d i n g   i s _ l o w   o f _ b i t s   o f _ i n t   r e t u r n s   c   =
+use mathlib.Core.Path.{refl}
+use lib.Ieee.{of_bits, of_int}
+use Rattle.pressure.specs.Convert.{is_low}
+use Rattle.pressure.proofs.convert.is_low.Goals as goal
+
+pub returns : goal.returns
+unfolding is_low of_bits of_int
+returns c = refl

@@ -1,0 +1,16 @@
+-- p u b   r e t u r n s   :   g o a l . r e t u r n s   u n f o l d i n g   s e t _ o f   c h a n g e d _ o f   r e t u r n s   c   =
+use Prim.Native.Nat.{◌+◌}
+use native.Mathlib.Omega.{arith}
+use borrow.Author.Tests.{lt-ltb, le-ltb}
+use Rattle.pressure.specs.Phases.{set_of}
+use Rattle.pressure.specs.Reference.{changed_of}
+use borrow.Author.Rules.{rules}
+use Rattle.pressure.proofs.phases.set.Goals as goal
+
+pub returns-then-reports-lt9 : goal.returns-then-reports-lt9
+unfolding set_of
+returns-then-reports-lt9 c = simp (lt-ltb (c.args.reports + 1) 10 (omega arith))
+
+pub returns : goal.returns
+unfolding set_of changed_of
+returns c = rw (c.changed-pressures.ensures, le-ltb (c.args.reports + 1) 10 (omega arith))

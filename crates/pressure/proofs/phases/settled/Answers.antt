@@ -1,0 +1,15 @@
+-- p u b   r e t u r n s - e l s e - r e p o r t s - l t 2 9   :   g o a l . r e t u r n s - e l s e - r e p o r t s - l t 2 9   u n f o l d i n g   s e t t l e d _ o f   r e t u r n s - e l s e - r e p o r t s - l t 2 9   c   =
+use Prim.Native.Nat.{◌+◌}
+use native.Mathlib.Omega.{arith}
+use borrow.Author.Tests.{lt-ltb, le-ltb}
+use Rattle.pressure.specs.Phases.{settled_of}
+use borrow.Author.Rules.{rules}
+use Rattle.pressure.proofs.phases.settled.Goals as goal
+
+pub returns-then-reports-lt29 : goal.returns-then-reports-lt29
+unfolding settled_of
+returns-then-reports-lt29 c = simp (lt-ltb (c.args.reports + 1) 30 (omega arith))
+
+pub returns-else-reports-lt29 : goal.returns-else-reports-lt29
+unfolding settled_of
+returns-else-reports-lt29 c = simp (le-ltb (c.args.reports + 1) 30 (omega arith))

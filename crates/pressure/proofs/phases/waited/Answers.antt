@@ -1,0 +1,13 @@
+-- p u b   r e t u r n s - e l s e - i s _ n o r m a l   :   g o a l . r e t u r n s - e l s e - i s _ n o r m a l   u n f o l d i n g   w a i t e d _ o f   r e t u r n s - e l s e - i s _ n o r m a l   c   =
+use mathlib.Core.Path.{sym, ◌∙◌}
+use Rattle.pressure.specs.Phases.{waited_of}
+use borrow.Author.Rules.{rules}
+use Rattle.pressure.proofs.phases.waited.Goals as goal
+
+pub returns-then-is_normal : goal.returns-then-is_normal
+unfolding waited_of
+returns-then-is_normal c = rw (sym c.is_normal.ensures ∙ c.if-is_normal.true)
+
+pub returns-else-is_normal : goal.returns-else-is_normal
+unfolding waited_of
+returns-else-is_normal c = rw (sym c.is_normal.ensures ∙ c.if-is_normal.false)

@@ -1,0 +1,19 @@
+-- p u b   r e t u r n s   :   g o a l . r e t u r n s   u n f o l d i n g   c h a n g e d _ o f   c h a n g e d _ r e f e r e n c e   r e t u r n s   c   =
+use mathlib.Core.Path.{sym, ◌∙◌}
+use borrow.Author.Rules.{rules}
+use lib.Ieee.{of_bits, of_int, div}
+use Rattle.pressure.specs.Convert.{halved_of}
+use Rattle.pressure.specs.Reference.{changed_reference, changed_of}
+use Rattle.pressure.proofs.reference.changed.Goals as goal
+
+pub returns-then-p : goal.returns-then-p
+unfolding changed_of changed_reference halved_of of_bits of_int div
+returns-then-p c = rw c.if-p.true
+
+pub returns-then-is_sinking : goal.returns-then-is_sinking
+unfolding changed_of changed_reference halved_of of_bits of_int div
+returns-then-is_sinking c = rw (c.if-p.false, sym c.is_sinking.ensures ∙ c.if-is_sinking.true)
+
+pub returns : goal.returns
+unfolding changed_of changed_reference
+returns c = rw (c.if-p.false, sym c.is_sinking.ensures ∙ c.if-is_sinking.false)

@@ -1,0 +1,18 @@
+-- p u b   r e t u r n s   :   g o a l . r e t u r n s   u n f o l d i n g   r e p o r t e d   p h a s e _ a f t e r   p r e s s u r e _ a t   r e t u r n s   c   =
+use mir.Syntax.{w16}
+use mir.ValLaws.{to_z-of_z}
+use Rattle.pressure.specs.Report.{pressure_at, phase_after, reported}
+use borrow.Author.Rules.{rules}
+use Rattle.pressure.proofs.report.Goals as goal
+
+pub returns : goal.returns
+unfolding reported phase_after pressure_at
+returns c =
+    rw (
+      c.sensor_fault.ensures,
+      c.reference_of-reference.ensures,
+      c.next-next.ensures,
+      c.pressure_of-pressure.ensures,
+      c.halved-reading.ensures,
+      to_z-of_z w16 c.args.external c.ranges.external,
+    )
