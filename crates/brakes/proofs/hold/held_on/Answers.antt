@@ -13,7 +13,7 @@ no_more : (count : ℕ) → 20 ≤ count → Hold.Low 20 ≡ Hold.Low (min 20 (c
 no_more count h = let same : 20 ≡ min 20 (count + 1) = omega (arith, h) in ap Hold.Low same
 
 pub returns-then-count-lt20 : goal.returns-then-count-lt20
-returns-then-count-lt20 c = let is = c.hold-1.given in rw is.1 (one_more is.0.0 c.if-count-lt20.true)
+returns-then-count-lt20 c = rw c.in-Low.is (one_more c.in-Low.count c.if-count-lt20.true)
 
 pub returns-else-count-lt20 : goal.returns-else-count-lt20
-returns-else-count-lt20 c = let is = c.hold-1.given in rw is.1 (no_more is.0.0 c.if-count-lt20.false)
+returns-else-count-lt20 c = rw c.in-Low.is (no_more c.in-Low.count c.if-count-lt20.false)
