@@ -1,73 +1,55 @@
-use mathlib.Core.Path.{◌≡◌, sym, ap, ◌∙◌}
-use lib.ListN.{length, length-map}
+use mathlib.Core.Path.{◌≡◌, ap, ◌∙◌}
+use lib.ListN.{length}
+use borrow.Author.Rules.{rules}
 use Rattle.places.specs.Places.{places}
 use Rattle.rules.specs.Reports.{report_of}
 use Rattle.steps.proofs.Supervising.{Steps, last_is, judged_last, vmax_last, seen_last, remembered_as}
 use Rattle.steps.proofs.odometer.supervise.Goals as goal
 
--- where the function begins
-abbrev start : goal.After-note_track-next → goal.Start
-start c =
-    c.before.before.before.before.before.before.before.before.before.before.before.before.before.before.before.before.before.before.before.before.before.before
-
--- its curves stand at all their places
-whole : (s : goal.Start) → length s.args.stm.track.curves ≡ places
-whole s = sym (length-map s.args.stm.track.curves _) ∙ s.well-formed.1.1.0.1.1.1.1.0.1.1.0.1.0.1
+-- the curves stand at all their places
+curves : (c : goal.After-rolled_in) → length c.args.stm.track.curves ≡ places
+curves c = search rules
 
 -- the steps up to the report
-abbrev steps : (c : goal.After-note_track-next) → Steps (start c).args.r (start c).args.stm
-steps c =
-    let at-state = c.before in
-    let at_left = at-state.before in
-    let at-text = at_left.before in
-    let at-loss = at-text.before in
-    let at_Added = at-loss.before in
-    let at-dropped = at_Added.before in
-    let at_seen = at-dropped.before in
-    let at-noted = at_seen.before.before in
-    let at-vmax = at-noted.before in
-    let at-judged = at-vmax.before in
-    let at_all = at-judged.before in
-    let at-kept = at_all.before in
-    let at-measured = at-kept.before in
-    record {
-      measured = at-measured.feedback_after_lem.result;
-      kept = at-kept.kept_of.result;
-      all = at_all.all-curves.result;
-      judged = at-judged.judge-now.result;
-      vmax = at-vmax.vmax-of.result;
-      noted = at-noted.noted-brakes.result;
-      seen = at_seen.seen-with.result;
-      dropped = at-dropped.is-drop.result;
-      added = at_Added.added-brakes.result;
-      loss = at-loss.is-fresh.result;
-      text = at-text.is-fresh2.result;
-      left = at_left.released.result;
-      state = at-state.state_after_lem.result;
-      track = c.note_track-next.result;
-      measured-is = at-measured.feedback_after_lem.ensures;
-      kept-is = at-kept.kept_of.ensures;
-      all-is = at_all.all-curves.ensures;
-      judged-is = at-judged.judge-now.ensures;
-      vmax-is = at-vmax.vmax-of.ensures;
-      noted-is = at-noted.noted-brakes.ensures;
-      seen-is = at_seen.seen-with.ensures;
-      dropped-is = at-dropped.is-drop.ensures;
-      added_is = at_Added.added-brakes.ensures;
-      loss-is = at-loss.is-fresh.ensures;
-      text-is = at-text.is-fresh2.ensures;
-      left_is = at_left.released.ensures;
-      state-is = at-state.state_after_lem.ensures;
-      whole = whole (start c);
-      track-is = c.note_track-next.ensures;
-    }
+abbrev steps : (c : goal.After-rolled_in) → Steps c.args.r c.args.stm
+steps c = record {
+  measured = c.feedback_after-measured.result;
+  kept = c.kept_of-kept.result;
+  all = c.all_curves.result;
+  judged = c.judge_now-judged.result;
+  vmax = c.vmax_of-vmax.result;
+  noted = c.noted_brakes-noted.result;
+  seen = c.seen_with-seen.result;
+  dropped = c.is_drop.result;
+  added = c.added_brakes-added.result;
+  loss = c.is_fresh.result;
+  text = c.is_fresh-2.result;
+  left = c.released-left.result;
+  state = c.state_after.result;
+  track = c.note_track-next.result;
+  measured_is = c.feedback_after-measured.ensures;
+  kept_is = c.kept_of-kept.ensures;
+  all_is = c.all_curves.ensures;
+  judged_is = c.judge_now-judged.ensures;
+  vmax_is = c.vmax_of-vmax.ensures;
+  noted_is = c.noted_brakes-noted.ensures;
+  seen_is = c.seen_with-seen.ensures;
+  dropped_is = c.is_drop.ensures;
+  added_is = c.added_brakes-added.ensures;
+  loss_is = c.is_fresh.ensures;
+  text_is = c.is_fresh-2.ensures;
+  left_is = c.released-left.ensures;
+  state_is = c.state_after.ensures;
+  whole = curves c;
+  track_is = c.note_track-next.ensures;
+}
 
 pub report_with-requires : goal.report_with-requires
 report_with-requires c =
-    let s = steps c.before.before in
+    let s = steps c in
     (judged_last s, vmax_last s, c.rolled_in.ensures ∙ seen_last s)
 
 pub returns : goal.returns
 returns c =
-    let e = last_is (steps c.before.before.before) in
-    remembered_as (start c.before.before.before).args.command.now e (c.report_with.ensures ∙ ap report_of e) c.padded.ensures
+    let e = last_is (steps c.before.before) in
+    remembered_as c.args.command.now e (c.report_with.ensures ∙ ap report_of e) c.padded.ensures
