@@ -1,4 +1,3 @@
--- p u b   r e t u r n s   :   g o a l . r e t u r n s   u n f o l d i n g   r e p o r t e d   p h a s e _ a f t e r   p r e s s u r e _ a t   r e t u r n s   c   =
 use mir.Syntax.{w16}
 use mir.ValLaws.{to_z-of_z}
 use Rattle.pressure.specs.Report.{pressure_at, phase_after, reported}

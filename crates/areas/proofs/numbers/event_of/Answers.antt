@@ -1,4 +1,3 @@
--- p u b   r e t u r n s - i n _ d e f a u l t   :   g o a l . r e t u r n s - i n _ d e f a u l t   u n f o l d i n g   e v e n t _ o f   r e t u r n s - i n _ d e f a u l t   c   =
 use borrow.Author.Tests.{ne_eqb}
 use Rattle.areas.specs.Numbers.{event_of}
 use Rattle.areas.proofs.numbers.event_of.Goals as goal
@@ -30,5 +29,5 @@ returns-in-5 c = rw c.in-5.is
 pub returns-in_default : goal.returns-in_default
 unfolding event_of
 returns-in_default c =
-    let r = c.in_default.rest in
+    let r = c.in_default.in_default-own.rest in
     rw (ne_eqb _ _ r.0.0.0.0.0.1, ne_eqb _ _ r.0.0.0.0.1, ne_eqb _ _ r.0.0.0.1, ne_eqb _ _ r.0.0.1, ne_eqb _ _ r.0.1, ne_eqb _ _ r.1)

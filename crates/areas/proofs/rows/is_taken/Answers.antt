@@ -1,19 +1,6 @@
--- p u b   r e t u r n s - i n - T o F u l l   :   g o a l . r e t u r n s - i n - T o F u l l   r e t u r n s - i n - T o F u l l   c   =
 use Rattle.areas.proofs.Told.{taken_by_lem}
 use borrow.Author.Rules.{rules}
 use Rattle.areas.proofs.rows.is_taken.Goals as goal
-
-pub is_area-outside-requires : goal.is_area-outside-requires
-is_area-outside-requires c = tt
-
-pub is_area-partial-requires : goal.is_area-partial-requires
-is_area-partial-requires c = tt
-
-pub is_area-ht-requires : goal.is_area-ht-requires
-is_area-ht-requires c = tt
-
-pub is_area-full-requires : goal.is_area-full-requires
-is_area-full-requires c = tt
 
 pub returns-in-Signal : goal.returns-in-Signal
 returns-in-Signal c =

@@ -1,4 +1,3 @@
--- p u b   r e t u r n s - i n - T o F u l l   :   g o a l . r e t u r n s - i n - T o F u l l   r e t u r n s - i n - T o F u l l   c   =
 use mathlib.Core.Path.{sym, ◌∙◌}
 use mathlib.Core.Bool.{true, false}
 use Rattle.areas.proofs.Told.{target_by}
@@ -6,45 +5,42 @@ use borrow.Author.Tests.{not-true, not-false}
 use borrow.Author.Rules.{rules}
 use Rattle.areas.proofs.rows.target_of.Goals as goal
 
-pub is_taken-requires : goal.is_taken-requires
-is_taken-requires c = tt
-
 pub returns-then-not-is_taken : goal.returns-then-not-is_taken
 returns-then-not-is_taken c =
     let args = c.args in
-    rw (target_by args.area args.event false (sym c.is_taken.ensures ∙ not-true _ c.if-not-is_taken.true))
+    rw (target_by args.area args.event false (sym c.is_taken.ensures ∙ c.if-not-is_taken.true))
 
 pub returns-in-Signal : goal.returns-in-Signal
 returns-in-Signal c =
     let args = c.args in
-    rw (target_by args.area args.event true (sym c.is_taken.ensures ∙ not-false _ c.if-not-is_taken.false), c.in-Signal.is)
+    rw (target_by args.area args.event true (sym c.is_taken.ensures ∙ c.if-not-is_taken.false), c.in-Signal.is)
 
 pub returns-in-GMD : goal.returns-in-GMD
 returns-in-GMD c =
     let args = c.args in
-    rw (target_by args.area args.event true (sym c.is_taken.ensures ∙ not-false _ c.if-not-is_taken.false), c.in-GMD.is)
+    rw (target_by args.area args.event true (sym c.is_taken.ensures ∙ c.if-not-is_taken.false), c.in-GMD.is)
 
 pub returns-in-HTDeleted : goal.returns-in-HTDeleted
 returns-in-HTDeleted c =
     let args = c.args in
-    rw (target_by args.area args.event true (sym c.is_taken.ensures ∙ not-false _ c.if-not-is_taken.false), c.in-HTDeleted.is)
+    rw (target_by args.area args.event true (sym c.is_taken.ensures ∙ c.if-not-is_taken.false), c.in-HTDeleted.is)
 
 pub returns-in-NoOverlap : goal.returns-in-NoOverlap
 returns-in-NoOverlap c =
     let args = c.args in
-    rw (target_by args.area args.event true (sym c.is_taken.ensures ∙ not-false _ c.if-not-is_taken.false), c.in-NoOverlap.is)
+    rw (target_by args.area args.event true (sym c.is_taken.ensures ∙ c.if-not-is_taken.false), c.in-NoOverlap.is)
 
 pub returns-in-ToNonEquipped : goal.returns-in-ToNonEquipped
 returns-in-ToNonEquipped c =
     let args = c.args in
-    rw (target_by args.area args.event true (sym c.is_taken.ensures ∙ not-false _ c.if-not-is_taken.false), c.in-ToNonEquipped.is)
+    rw (target_by args.area args.event true (sym c.is_taken.ensures ∙ c.if-not-is_taken.false), c.in-ToNonEquipped.is)
 
 pub returns-in-ToHT : goal.returns-in-ToHT
 returns-in-ToHT c =
     let args = c.args in
-    rw (target_by args.area args.event true (sym c.is_taken.ensures ∙ not-false _ c.if-not-is_taken.false), c.in-ToHT.is)
+    rw (target_by args.area args.event true (sym c.is_taken.ensures ∙ c.if-not-is_taken.false), c.in-ToHT.is)
 
 pub returns-in-ToFull : goal.returns-in-ToFull
 returns-in-ToFull c =
     let args = c.args in
-    rw (target_by args.area args.event true (sym c.is_taken.ensures ∙ not-false _ c.if-not-is_taken.false), c.in-ToFull.is)
+    rw (target_by args.area args.event true (sym c.is_taken.ensures ∙ c.if-not-is_taken.false), c.in-ToFull.is)

@@ -1,4 +1,3 @@
--- p u b   r e t u r n s   :   g o a l . r e t u r n s   u n f o l d i n g   r e a c h _ o f _ f   i s _ r e a c h e d _ f   i s _ a b o v e   t a r g e t _ o f   r e t u r n s   c   =
 use Prim.Native.Nat.{◌*◌, zero-le}
 use mathlib.Core.Path.{sym, ◌∙◌, ap₂}
 use mathlib.Core.Bool.{◌&&◌}
@@ -28,9 +27,6 @@ returns-then-is_above-target_of c =
     let above = sym (ap₂ (λ s w. s && ltb w less.result) c.is_above.ensures c.target_of.ensures) ∙ c.if-is_above-target_of.true in
     rw (sym less.ensures)
     (line_asked (λ x. line_for x a.level 50 less.result 10 0) a.curve above c.line_reach.ensures.0 c.line_reach.ensures.1)
-
-pub never_reached-requires : goal.never_reached-requires
-never_reached-requires c = tt
 
 pub returns : goal.returns
 unfolding reach_of_f is_reached_f is_above target_of

@@ -1,4 +1,3 @@
--- p u b   r e t u r n s   :   g o a l . r e t u r n s   u n f o l d i n g   l i n e _ f o r   l i n e   r e t u r n s   c   =
 use native.Mathlib.Omega.{arith}
 use mir.Syntax.{w64}
 use mir.ValLaws.{to_z-of_z}
@@ -25,8 +24,8 @@ unfolding line_for line
 returns c =
     let w = c.target_of in
     let b = c.deceleration_of-b in
-    let left = left_side-requires c.before.before tt in
-    let right = right_side-requires c.before tt in
+    let left = left_side-requires c.before.before in
+    let right = right_side-requires c.before in
     rw (
       c.right_side.ensures,
       c.left_side.ensures,

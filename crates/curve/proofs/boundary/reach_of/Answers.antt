@@ -1,4 +1,3 @@
--- p u b   r e t u r n s   :   g o a l . r e t u r n s   u n f o l d i n g   r e a c h _ o f   i s _ r e a c h e d   i s _ a b o v e   r e t u r n s   c   =
 use Prim.Native.Nat.{◌*◌}
 use mathlib.Core.Path.{sym, ◌∙◌}
 use native.Mathlib.Omega.{arith}
@@ -27,9 +26,6 @@ returns-then-is_above c =
     let a = c.args in
     let above = sym c.is_above.ensures ∙ c.if-is_above.true in
     line_asked (λ x. line_for x a.level 50 (9 * a.v) 10 (a.v * a.lead)) a.curve above c.line_reach.ensures.0 c.line_reach.ensures.1
-
-pub never_reached-requires : goal.never_reached-requires
-never_reached-requires c = tt
 
 pub returns : goal.returns
 unfolding reach_of is_reached is_above

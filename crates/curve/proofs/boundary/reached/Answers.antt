@@ -1,4 +1,3 @@
--- p u b   r e t u r n s   :   g o a l . r e t u r n s   u n f o l d i n g   i s _ r e a c h e d   r e t u r n s   c   =
 use native.Mathlib.Omega.{arith}
 use lib.Dec.{lit≤}
 use borrow.Author.Rules.{rules}

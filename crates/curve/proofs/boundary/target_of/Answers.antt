@@ -1,4 +1,3 @@
--- p u b   r e t u r n s - i n - E x p e c t S t o p   :   g o a l . r e t u r n s - i n - E x p e c t S t o p   u n f o l d i n g   t a r g e t _ o f   r e t u r n s - i n - E x p e c t S t o p   c   =
 use borrow.Author.Rules.{rules}
 use Rattle.curve.specs.Boundary.{target_of}
 use Rattle.curve.proofs.boundary.target_of.Goals as goal

@@ -1,4 +1,3 @@
--- p u b   r e t u r n s - e l s e - w i d e - l t 0   :   g o a l . r e t u r n s - e l s e - w i d e - l t 0   r e t u r n s - e l s e - w i d e - l t 0   c   =
 use Prim.Native.Nat.{ℕ, suc}
 use mathlib.Core.Path.{◌≡◌, refl, sym, ◌∙◌}
 use mathlib.Core.Bool.{true, false, false≢true}

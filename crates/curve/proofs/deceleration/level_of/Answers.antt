@@ -1,4 +1,3 @@
--- p u b   r e t u r n s - e l s e - h a l k a   :   g o a l . r e t u r n s - e l s e - h a l k a   u n f o l d i n g   l e v e l _ o f   r e t u r n s - e l s e - h a l k a   c   =
 use Rattle.curve.specs.Deceleration.{level_of}
 use Rattle.curve.proofs.deceleration.level_of.Goals as goal
 

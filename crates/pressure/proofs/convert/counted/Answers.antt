@@ -1,4 +1,3 @@
--- p u b   r e t u r n s   :   g o a l . r e t u r n s   u n f o l d i n g   c o u n t e d _ o f   i s _ h i g h   o f _ b i t s   o f _ i n t   r e t u r n s   c   =
 use mathlib.Core.Path.{◌≡◌}
 use mathlib.Core.Bool.{true, false}
 use lib.Ieee.{of_bits, of_int, lt}

@@ -1,4 +1,3 @@
--- p u b   r e t u r n s - e l s e - p r e s s u r e   :   g o a l . r e t u r n s - e l s e - p r e s s u r e   u n f o l d i n g   l i m i t e d _ o f   o f _ b i t s   o f _ i n t   r e t u r n s - e l s e - p r e s s u r e   c   =
 use mathlib.Core.Path.{◌≡◌}
 use mathlib.Core.Bool.{true, false}
 use lib.Ieee.{of_bits, of_int, lt}

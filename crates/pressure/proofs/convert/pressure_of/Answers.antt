@@ -1,4 +1,3 @@
--- p u b   r e t u r n s - i n - C y l i n d e r   :   g o a l . r e t u r n s - i n - C y l i n d e r   u n f o l d i n g   p r e s s u r e _ o f   c o n v e r t e d _ o f   r e t u r n s - i n - C y l i n d e r   c   =
 use mathlib.Core.Path.{sym, ◌∙◌}
 use Rattle.pressure.specs.Convert.{converted_of, pressure_of}
 use borrow.Author.Rules.{rules}

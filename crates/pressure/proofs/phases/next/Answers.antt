@@ -1,4 +1,3 @@
--- p u b   r e t u r n s - i n - S e t   :   g o a l . r e t u r n s - i n - S e t   u n f o l d i n g   n e x t _ o f   r e t u r n s - i n - S e t   c   =
 use mathlib.Core.Path.{sym, ◌∙◌}
 use Rattle.pressure.specs.Phases.{next_of}
 use borrow.Author.Rules.{rules}

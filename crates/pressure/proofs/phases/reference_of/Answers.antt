@@ -1,4 +1,3 @@
--- p u b   r e t u r n s - i n - S e t   :   g o a l . r e t u r n s - i n - S e t   u n f o l d i n g   r e f e r e n c e _ o f   r e t u r n s - i n - S e t   c   =
 use borrow.Author.Rules.{rules}
 use lib.Ieee.{of_bits, of_int}
 use Rattle.pressure.specs.Phases.{reference_of}

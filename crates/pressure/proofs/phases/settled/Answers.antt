@@ -1,4 +1,3 @@
--- p u b   r e t u r n s - e l s e - r e p o r t s - l t 2 9   :   g o a l . r e t u r n s - e l s e - r e p o r t s - l t 2 9   u n f o l d i n g   s e t t l e d _ o f   r e t u r n s - e l s e - r e p o r t s - l t 2 9   c   =
 use Prim.Native.Nat.{◌+◌}
 use native.Mathlib.Omega.{arith}
 use borrow.Author.Tests.{lt-ltb, le-ltb}

@@ -1,4 +1,3 @@
--- p u b   r e t u r n s - e l s e - i s _ n o r m a l   :   g o a l . r e t u r n s - e l s e - i s _ n o r m a l   u n f o l d i n g   w a i t e d _ o f   r e t u r n s - e l s e - i s _ n o r m a l   c   =
 use mathlib.Core.Path.{sym, ◌∙◌}
 use Rattle.pressure.specs.Phases.{waited_of}
 use borrow.Author.Rules.{rules}

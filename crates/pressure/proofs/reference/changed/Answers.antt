@@ -1,4 +1,3 @@
--- p u b   r e t u r n s   :   g o a l . r e t u r n s   u n f o l d i n g   c h a n g e d _ o f   c h a n g e d _ r e f e r e n c e   r e t u r n s   c   =
 use mathlib.Core.Path.{sym, ◌∙◌}
 use borrow.Author.Rules.{rules}
 use lib.Ieee.{of_bits, of_int, div}

@@ -1,4 +1,4 @@
--- p u b   r e t u r n s - e l s e - s o u r c e - t a r g e t   :   g o a l . r e t u r n s - e l s e - s o u r c e - t a r g e t   u n f o l d i n g   c o p i e d   r e t u r n s - e l s e - s o u r c e - t a r g e t   c   =
+-- The loop's invariant: the target has the source's bytes before `i`, and its own from there on.
 use Prim.Native.Nat.{◌≤◌, ◌-◌}
 use mathlib.Core.Path.{◌≡◌, refl, ◌∙◌}
 use mathlib.Core.List.{◌++◌}

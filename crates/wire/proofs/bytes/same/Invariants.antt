@@ -1,4 +1,4 @@
--- p u b   r e t u r n s   :   g o a l . r e t u r n s   r e t u r n s   c   =
+-- The loop's invariant: what is left from `i` on is the same exactly where the whole is.
 use Prim.Native.Nat.{◌≤◌, ◌-◌}
 use mathlib.Core.Path.{◌≡◌, refl, sym, ap, ◌∙◌}
 use native.Mathlib.Omega.{arith}

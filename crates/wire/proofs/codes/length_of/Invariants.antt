@@ -1,4 +1,4 @@
--- p u b   r e t u r n s   :   g o a l . r e t u r n s   u n f o l d i n g   c o m m a n d s   r e t u r n s   c   =
+-- The loop's invariant: the code's length in the rows from `i` on is its length in the whole table, and the table is that of `commands`.
 use Prim.Native.Nat.{◌≤◌, ◌-◌}
 use mathlib.Core.Path.{◌≡◌, refl, sym, ◌∙◌}
 use native.Mathlib.Omega.{arith}

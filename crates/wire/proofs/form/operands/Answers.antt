@@ -1,4 +1,4 @@
--- p u b   r e t u r n s - i n - W h o l e   :   g o a l . r e t u r n s - i n - W h o l e   u n f o l d i n g   o p e r a n d _ p a r t   p a r t _ f o r   r e t u r n s - i n - W h o l e   c   =
+-- A command of whole form has the five bytes of code and number: the shortest has no more.
 use Prim.Native.Nat.{ℕ, ◌≤◌, ◌-◌}
 use mathlib.Core.Path.{◌≡◌, refl, sym, ◌∙◌}
 use mathlib.Core.List.{List, [], ◌∷◌}
@@ -6,6 +6,7 @@ use native.Mathlib.Omega.{arith}
 use borrow.Author.Rules.{rules}
 use denote.Enum.Declared.{tag_of}
 use types.Run.{OneOf, miss}
+use borrow.Enum.Refused.{opened}
 use lib.ListN.{length, drop, length-drop}
 use lib.Seq.{take_all}
 use Rattle.wire.specs.declared.form.Form.{Form}
@@ -23,26 +24,19 @@ refused Form.NoCode s k = refl
 refused Form.WrongLength s k = refl
 refused Form.Whole s k = absurd (miss (0 ∷ 1 ∷ 2 ∷ 3 ∷ []) 4 tt k)
 
--- the other arm
-whole : (c : goal.In-Whole) → let a = c.args in form_of a.command.now a.area ≡ Form.Whole
-whole c = sym c.form_of.ensures.0 ∙ c.in-Whole.is
-
-five : (c : goal.In-Whole) → 5 ≤ length c.args.command.now
-five c = whole_five _ _ (whole c)
-
-pub form_of-requires : goal.form_of-requires
-form_of-requires c = tt
-
 pub slice_bounds-result-count : goal.slice_bounds-result-count
-slice_bounds-result-count c = omega (arith, five c)
+slice_bounds-result-count c = omega (arith, whole_five _ _ (sym c.form_of.ensures.value ∙ c.in-Whole.is))
+
+pub slice_bounds-result-start : goal.slice_bounds-result-start
+slice_bounds-result-start c = omega (arith, whole_five _ _ (sym c.form_of.ensures.value ∙ c.in-Whole.is))
 
 pub returns-in-WrongArea : goal.returns-in-WrongArea
 unfolding operand_part
 returns-in-WrongArea c =
-    rw (sym c.form_of.ensures.0) (sym (refused c.form_of.result _ c.in-WrongArea.keys1))
+    rw (sym c.form_of.ensures.value) (sym (refused c.form_of.result _ (opened c.in-WrongArea.in-WrongArea-own.keys1)))
 
 pub returns-in-Whole : goal.returns-in-Whole
 unfolding operand_part part_for
 returns-in-Whole c =
     let a = c.args in
-    rw (whole c.before) (take_all (length a.command.now - 5) (drop 5 a.command.now) (simp length-drop (omega arith)))
+    rw (sym c.form_of.ensures.value ∙ c.in-Whole.is) (take_all (length a.command.now - 5) (drop 5 a.command.now) (simp length-drop (omega arith)))

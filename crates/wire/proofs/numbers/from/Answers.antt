@@ -1,4 +1,3 @@
--- p u b   r e t u r n s - e l s e - a t - s   :   g o a l . r e t u r n s - e l s e - a t - s   r e t u r n s - e l s e - a t - s   c   =
 use Prim.Native.Nat.{◌-◌}
 use borrow.Author.Rules.{rules}
 use native.Mathlib.Omega.{arith}

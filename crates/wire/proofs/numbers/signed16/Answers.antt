@@ -1,4 +1,4 @@
--- p u b   r e t u r n s - e l s e - x - l t 3 2 7 6 8   :   g o a l . r e t u r n s - e l s e - x - l t 3 2 7 6 8   r e t u r n s - e l s e - x - l t 3 2 7 6 8   c   =
+-- , by the laws for every width at 16 bits.
 use native.Mathlib.Omega.{arith}
 use lib.Dec.{lit≤}
 use mir.Syntax.{w16, w32}

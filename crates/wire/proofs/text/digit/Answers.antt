@@ -1,4 +1,3 @@
--- p u b   r e t u r n s - e l s e - l o w - l t 1 0   :   g o a l . r e t u r n s - e l s e - l o w - l t 1 0   r e t u r n s - e l s e - l o w - l t 1 0   c   =
 use borrow.Author.Rules.{rules}
 use borrow.Author.Tests.{lt-ltb, le-ltb}
 use Rattle.wire.proofs.text.digit.Goals as goal
