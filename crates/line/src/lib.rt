@@ -19,9 +19,9 @@ pub const WIDTH: usize = 3 + REPORT_WIDTH + 1;
 // Writes a decimal number at the front, and tells how many digits it has.
 fn put_number(bytes: &mut [u8], n: u8) -> usize
     requires { 3 ≤ length bytes.old }
-    ensures upper_bound { result ≤ 3 }
-    ensures bytes_after { take result bytes.new ≡ decimal_of n }
-    ensures bytes_unchanged { drop result bytes.new ≡ drop result bytes.old }
+    ensures short { result ≤ 3 }
+    ensures written { take result bytes.new ≡ decimal_of n }
+    ensures rest_stays { drop result bytes.new ≡ drop result bytes.old }
 {
     if n < 10 {
         bytes[0] = digit(n);
@@ -41,8 +41,8 @@ fn put_number(bytes: &mut [u8], n: u8) -> usize
 // Writes a space and a report from a place on.
 fn put_report(bytes: &mut [u8], at: usize, report: [u8; REPORT_LENGTH])
     requires { at + report_width ≤ length bytes.old }
-    ensures bytes_after { take (at + report_width) bytes.new ≡ take at bytes.old ++ (space ∷ hex_of report) }
-    ensures bytes_unchanged { drop (at + report_width) bytes.new ≡ drop (at + report_width) bytes.old }
+    ensures written { take (at + report_width) bytes.new ≡ take at bytes.old ++ (space ∷ hex_of report) }
+    ensures rest_stays { drop (at + report_width) bytes.new ≡ drop (at + report_width) bytes.old }
 {
     bytes[at] = b' ';
     let mut next = at + 1;
@@ -57,9 +57,9 @@ fn put_report(bytes: &mut [u8], at: usize, report: [u8; REPORT_LENGTH])
 // Writes the report, where the answer has one, and tells where the text ends.
 fn put_answered(bytes: &mut [u8], at: usize, answer: Answer, report: [u8; REPORT_LENGTH]) -> usize
     requires { (at ≤ 3) × (3 + report_width ≤ length bytes.old) }
-    ensures upper_bound { result ≤ 3 + report_width }
-    ensures bytes_after { take result bytes.new ≡ take at bytes.old ++ cond (is_answered answer) (space ∷ hex_of report) [] }
-    ensures lower_bound { (at ≤ result) × (drop result bytes.new ≡ drop result bytes.old) }
+    ensures short { result ≤ 3 + report_width }
+    ensures written { take result bytes.new ≡ take at bytes.old ++ cond (is_answered answer) (space ∷ hex_of report) [] }
+    ensures rest_stays { (at ≤ result) × (drop result bytes.new ≡ drop result bytes.old) }
 {
     if unit::is_answered(answer) {
         put_report(bytes, at, report);
@@ -71,9 +71,9 @@ fn put_answered(bytes: &mut [u8], at: usize, answer: Answer, report: [u8; REPORT
 // Writes the line of an answer at the front, where there is room for any line, and tells how many bytes it has. The report is
 // read only where the answer has one.
 pub fn put_line(bytes: &mut [u8], answer: Answer, report: [u8; REPORT_LENGTH]) -> usize
-    ensures value { result ≡ length (line_in (length bytes.old) answer report) }
-    ensures upper_bound { result ≤ line_width }
-    ensures bytes_after { bytes.new ≡ placed (line_in (length bytes.old) answer report) bytes.old }
+    ensures count { result ≡ length (line_in (length bytes.old) answer report) }
+    ensures short { result ≤ line_width }
+    ensures written { bytes.new ≡ placed (line_in (length bytes.old) answer report) bytes.old }
 {
     if bytes.len() < WIDTH {
         return 0;

@@ -36,10 +36,10 @@ struct Told {
 // Hands one portion to the unit, and puts its line at the front of the room.
 fn tell(stm: Stm, portion: &[u8], room: &mut [u8]) -> Told
     requires { line_width ≤ length room.old }
-    ensures stm_value { result.stm ≡ lines.next stm portion.now }
-    ensures written_value { result.written ≡ length (lines.text stm portion.now) }
-    ensures written_le_line_width { result.written ≤ line_width }
-    ensures room_after { room.new ≡ placed (lines.text stm portion.now) room.old }
+    ensures unit_after { result.stm ≡ lines.next stm portion.now }
+    ensures count { result.written ≡ length (lines.text stm portion.now) }
+    ensures short { result.written ≤ line_width }
+    ensures written { room.new ≡ placed (lines.text stm portion.now) room.old }
 {
     let mut report = [255u8; REPORT_LENGTH];
     let outcome = unit::call(stm, portion, &mut report);
@@ -51,8 +51,8 @@ fn tell(stm: Stm, portion: &[u8], room: &mut [u8]) -> Told
 
 // Hands on what can be given of the bytes, as far as there is room for the lines. `all` says that no bytes come after these.
 pub fn hand_on(stm: Stm, bytes: &[u8], all: bool, output: &mut [u8]) -> Handed
-    ensures value { result ≡ handed_on stm (given_in (length output.old) all bytes.now) }
-    ensures output_after { output.new ≡ placed (text_by lines stm (given_in (length output.old) all bytes.now).portions) output.old }
+    ensures outcome { result ≡ handed_on stm (given_in (length output.old) all bytes.now) }
+    ensures written { output.new ≡ placed (text_by lines stm (given_in (length output.old) all bytes.now).portions) output.old }
 {
     let most = output.len() / line::WIDTH;
     let mut stm = stm;
@@ -102,8 +102,8 @@ pub fn turn(
     to: usize,
     output: &mut [u8; OUTPUT],
 ) -> Handed
-    ensures value { result ≡ handed_on stm (given_of (eqb to left) (take to input.now)) }
-    ensures output_after { output.new ≡ placed (text_by lines stm (given_of (eqb to left) (take to input.now)).portions) output.old }
+    ensures outcome { result ≡ handed_on stm (given_of (eqb to left) (take to input.now)) }
+    ensures written { output.new ≡ placed (text_by lines stm (given_of (eqb to left) (take to input.now)).portions) output.old }
 {
     hand_on(stm, portions::part(input, 0, to), to == left, output)
 }

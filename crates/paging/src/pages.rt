@@ -75,10 +75,10 @@ fn put_line(line: [u8; LINE], room: &mut [u8], at: usize)
 // Prints the line of an accepted command where one is due, on this page or on the next with its first line, at the front of the
 // room. Where the room is too small for two lines, nothing is printed and the sheet stays.
 pub fn print(sheet: Sheet, number: u32, report: [u8; REPORT_LENGTH], room: &mut [u8]) -> Put
-    ensures sheet_value { result.sheet ≡ (added_in (length room.old) sheet (entry number report)).sheet }
-    ensures written_value { result.written ≡ length (added_in (length room.old) sheet (entry number report)).text }
-    ensures written_le_added_width { result.written ≤ added_width }
-    ensures room_after { room.new ≡ placed (added_in (length room.old) sheet (entry number report)).text room.old }
+    ensures sheet_after { result.sheet ≡ (added_in (length room.old) sheet (entry number report)).sheet }
+    ensures count { result.written ≡ length (added_in (length room.old) sheet (entry number report)).text }
+    ensures short { result.written ≤ added_width }
+    ensures written { room.new ≡ placed (added_in (length room.old) sheet (entry number report)).text room.old }
 {
     if room.len() < ADDED {
         return Put { sheet, written: 0 };

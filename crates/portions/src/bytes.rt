@@ -21,8 +21,8 @@ pub fn part(s: &[u8], from: usize, to: usize) -> &[u8]
 
 // Brings such a part to the front, and tells how many bytes it has.
 pub fn to_front(s: &mut [u8], from: usize, to: usize) -> usize
-    ensures value { result ≡ length (slice from to s.old) }
-    ensures s_after { s.new ≡ placed (slice from to s.old) s.old }
+    ensures count { result ≡ length (slice from to s.old) }
+    ensures brought { s.new ≡ placed (slice from to s.old) s.old }
 {
     let n = part(s, from, to).len();
     let mut i = 0;

@@ -55,10 +55,10 @@ pub fn fresh() -> Trip
 // Hands one portion to the unit and, where it is accepted, prints what is due at the front of the room.
 fn tell(trip: Trip, portion: &[u8], room: &mut [u8]) -> Told
     requires { added_width ≤ length room.old }
-    ensures trip_value { result.trip ≡ printer.next trip portion.now }
-    ensures written_value { result.written ≡ length (printer.text trip portion.now) }
-    ensures written_le_added_width { result.written ≤ added_width }
-    ensures room_after { room.new ≡ placed (printer.text trip portion.now) room.old }
+    ensures trip_after { result.trip ≡ printer.next trip portion.now }
+    ensures count { result.written ≡ length (printer.text trip portion.now) }
+    ensures short { result.written ≤ added_width }
+    ensures written { room.new ≡ placed (printer.text trip portion.now) room.old }
 {
     let stm = trip.stm;
     let sheet = trip.sheet;
@@ -82,8 +82,8 @@ fn tell(trip: Trip, portion: &[u8], room: &mut [u8]) -> Told
 
 // Hands on what can be given of the bytes, as far as there is room for what it adds. `all` says that no bytes come after these.
 pub fn hand_on(trip: Trip, bytes: &[u8], all: bool, output: &mut [u8]) -> Handed
-    ensures value { result ≡ handed_on trip (given_in (length output.old) all bytes.now) }
-    ensures output_after { output.new ≡ placed (text_by printer trip (given_in (length output.old) all bytes.now).portions) output.old }
+    ensures outcome { result ≡ handed_on trip (given_in (length output.old) all bytes.now) }
+    ensures written { output.new ≡ placed (text_by printer trip (given_in (length output.old) all bytes.now).portions) output.old }
 {
     let most = output.len() / ADDED;
     let mut trip = trip;
@@ -133,8 +133,8 @@ pub fn turn(
     to: usize,
     output: &mut [u8; OUTPUT],
 ) -> Handed
-    ensures value { result ≡ handed_on trip (given_of (eqb to left) (take to input.now)) }
-    ensures output_after { output.new ≡ placed (text_by printer trip (given_of (eqb to left) (take to input.now)).portions) output.old }
+    ensures outcome { result ≡ handed_on trip (given_of (eqb to left) (take to input.now)) }
+    ensures written { output.new ≡ placed (text_by printer trip (given_of (eqb to left) (take to input.now)).portions) output.old }
 {
     hand_on(trip, portions::part(input, 0, to), to == left, output)
 }

@@ -166,9 +166,9 @@ module _ (stm : Stm) (y : Sent) (goes : GoesOn stm y) where
   interval_on true place held =
       let r = reading_of (operands_of y.command) in
       let one = record_at place stm in
-      let covered = moved_record_lem r.moved one (as_held one held).0 in
+      let moved = moved_record_lem r.moved one (as_held one held).0 in
       let covered = covered_by r.moved one.condition in
-      ap (λ et. interval_of (as_curve et) (braking_in next) next.kept.speed) (record_on place ∙ ap (noted_for r stm) covered)
+      ap (λ et. interval_of (as_curve et) (braking_in next) next.kept.speed) (record_on place ∙ ap (noted_for r stm) moved)
       ∙ same_interval one (judging r stm (as_curve (with_condition (with_curve one (moved_by one.curve r.moved)) covered))) (moved_of y.command) covered
       (braking_in next) next.kept.speed
       ∙ ap₂ (λ braking v. interval_of (moved_by (as_curve one) (moved_of y.command)) braking v) brakes_on kept_on.0

@@ -72,6 +72,7 @@ halves (inf true) h = h
 halves (fin false m e) h =
     rounds 10 (m * up e * 1) (1 * 2 * down e) (unfold round in refl) (omega (arith, down_pos e)) (omega (arith, h.1))
 halves (fin true m e) h = absurd (true≢false h.0)
+halves nan h = elim h [ ]
 
 halved : (n : ℕ) → 2048 ≤ n → AtLeast 1024 (halved_of (pos n))
 unfolding halved_of of_int
@@ -97,6 +98,7 @@ is_high_lem (fin false m e) h =
       high = lt-ltb (955 * down e) (m * up e * 1) (omega arith);
       limited = rw (lt-ltb (0 * down e) (m * up e * 1) (omega arith), le-ltb (m * up e * 1) (550 * down e) (omega arith));
     }
+is_high_lem nan h = elim h [ ]
 
 high_reading : (n : ℕ) → 2048 ≤ n → High (halved_of (pos n))
 high_reading n h = is_high_lem (halved_of (pos n)) (halved n h)

@@ -1,7 +1,7 @@
 -- Two units, of which the second has the weaker brakes, the stricter track and the higher speed: its VMAX and permitted speed are
 -- no higher, its curves brake where the first's do, and no interval is earlier. Assumes nothing.
 use Prim.Native.Nat.{ℕ, ◌≤◌, min}
-use mathlib.Core.Path.{◌≡◌, refl, ◌∙◌, ap, subst}
+use mathlib.Core.Path.{◌≡◌, refl, sym, ◌∙◌, ap, subst}
 use mathlib.Core.Bool.{Bool, true, false, ◌&&◌, and-eq-true_iff}
 use mathlib.Core.Logic.{inl, inr}
 use mathlib.Core.List.Memᴰ
@@ -170,6 +170,15 @@ module _ {braking braking' : Braking} (weaker : WeakerBraking braking braking') 
 abbrev limits : ℕ → Stay → Bool → List Section → List ℕ
 limits speed stay forty sections = area_speed speed stay ∷ stop_speed speed forty ∷ map (section_speed speed) sections
 
+-- the least of them goes by equal figures
+same_limits : {speed speed' : ℕ} {stay stay' : Stay} {forty forty' : Bool} (sections : List Section)
+    → speed ≡ speed' → stay ≡ stay' → forty ≡ forty'
+    → foldr min speed (limits speed stay forty sections) ≡ foldr min speed' (limits speed' stay' forty' sections)
+same_limits {speed} {speed'} {stay} {stay'} {forty} {forty'} sections e f g =
+    ap (λ (s : ℕ). foldr min s (limits s stay forty sections)) e
+    ∙ ap (λ (s : Stay). foldr min speed' (limits speed' s forty sections)) f
+    ∙ ap (λ (s : Bool). foldr min speed' (limits speed' stay' s sections)) g
+
 module _ (speed : ℕ) (stay : Stay) (forty : Bool) {sections sections' : List Section} (below : SectionsBelow sections sections') where
   -- a held section limits the second too; a place that holds none leaves the train's speed
   section_limits : (section : Section) → section ∈ sections → (t : Bool) → section.held ≡ t
@@ -226,7 +235,10 @@ module _ {train train' : Train} (trains : TrainsCompared train train') where
   module _ {track track' : Track} (tracks : TracksBelow track track') where
     pub vmax_no_higher : vmax_of train' track' ≤ vmax_of train track
     unfolding vmax_of
-    vmax_no_higher = rw (trains.speed, tracks.forty, tracks.stay) (least_limit_no_more train.speed track.stay track.forty tracks.sections)
+    vmax_no_higher =
+        subst (λ (n : ℕ). n ≤ foldr min train.speed (limits train.speed track.stay track.forty track.sections))
+        (same_limits track'.sections (sym trains.speed) (sym tracks.stay) (sym tracks.forty))
+        (least_limit_no_more train.speed track.stay track.forty tracks.sections)
 
     module _ {kept kept' : Kept} (kepts : KeptBelow kept kept') where
       pub curves_still_brake : (interval : Interval)

@@ -32,10 +32,10 @@ fn write(bytes: [u8; REPORT_LENGTH], report: &mut [u8])
 // One command. The report area is written whole at answers 0 and 100 and left alone at every other; the state moves
 // at answer 0 only.
 pub fn call(stm: Stm, command: &[u8], report: &mut [u8]) -> Outcome
-    ensures value { result ≡ call_of stm command.now (length report.old) }
-    ensures report_after { report.new ≡ area_of result report.old }
-    ensures stm_value { is_accepted result.answer ≡ false → result.stm ≡ stm }
-    ensures report_unchanged { is_refused result.answer ≡ true → report.new ≡ report.old }
+    ensures outcome { result ≡ call_of stm command.now (length report.old) }
+    ensures area { report.new ≡ area_of result report.old }
+    ensures unit_stays { is_accepted result.answer ≡ false → result.stm ≡ stm }
+    ensures area_stays { is_refused result.answer ≡ true → report.new ≡ report.old }
 {
     let area = report.len();
     let answer = refusals::answer_of(stm, command, area);

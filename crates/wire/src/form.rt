@@ -23,8 +23,8 @@ pub enum Form {
 
 // What a command is refused for where the report area has `area` bytes.
 pub fn form_of(command: &[u8], area: usize) -> Form
-    ensures value { result ≡ form_of command.now area }
-    ensures result_value { refusal_of result ≡ refusal_to command.now area }
+    ensures outcome { result ≡ form_of command.now area }
+    ensures refusal { refusal_of result ≡ refusal_to command.now area }
 {
     if area != REPORT_LENGTH {
         return Form::WrongArea;

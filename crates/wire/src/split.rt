@@ -17,8 +17,8 @@ pub enum Next {
 }
 
 pub fn next_command(rest: &[u8]) -> Next
-    ensures value { result ≡ next_command rest.now }
-    ensures result_value { next_refusal result ≡ rest_refusal rest.now }
+    ensures outcome { result ≡ next_command rest.now }
+    ensures refusal { next_refusal result ≡ rest_refusal rest.now }
 {
     if rest.len() == 0 {
         return Next::End;

@@ -15,8 +15,8 @@ use Rattle.wire.proofs.Commands.{form_number}
 use Rattle.wire.proofs.form.form_of.Goals as goal
 
 -- a case with its number
-told : (s : List ℕ) (area : ℕ) {r : Form} → r ≡ form_of s area → record { value : r ≡ form_of s area; result_value : refusal_of r ≡ refusal_to s area }
-told s area e = record { value = e; result_value = ap refusal_of e ∙ form_number s area }
+told : (s : List ℕ) (area : ℕ) {r : Form} → r ≡ form_of s area → record { outcome : r ≡ form_of s area; refusal : refusal_of r ≡ refusal_to s area }
+told s area e = record { outcome = e; refusal = ap refusal_of e ∙ form_number s area }
 
 pub returns-then-area-ne-REPORT_LENGTH : goal.returns-then-area-ne-REPORT_LENGTH
 unfolding form_of

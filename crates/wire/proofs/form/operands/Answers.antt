@@ -25,18 +25,18 @@ refused Form.WrongLength s k = refl
 refused Form.Whole s k = absurd (miss (0 ∷ 1 ∷ 2 ∷ 3 ∷ []) 4 tt k)
 
 pub slice_bounds-result-count : goal.slice_bounds-result-count
-slice_bounds-result-count c = omega (arith, whole_five _ _ (sym c.form_of.ensures.value ∙ c.in-Whole.is))
+slice_bounds-result-count c = omega (arith, whole_five _ _ (sym c.form_of.ensures.outcome ∙ c.in-Whole.is))
 
 pub slice_bounds-result-start : goal.slice_bounds-result-start
-slice_bounds-result-start c = omega (arith, whole_five _ _ (sym c.form_of.ensures.value ∙ c.in-Whole.is))
+slice_bounds-result-start c = omega (arith, whole_five _ _ (sym c.form_of.ensures.outcome ∙ c.in-Whole.is))
 
 pub returns-in-WrongArea : goal.returns-in-WrongArea
 unfolding operand_part
 returns-in-WrongArea c =
-    rw (sym c.form_of.ensures.value) (sym (refused c.form_of.result _ (opened c.in-WrongArea.in-WrongArea-own.keys1)))
+    rw (sym c.form_of.ensures.outcome) (sym (refused c.form_of.result _ (opened c.in-WrongArea.in-WrongArea-own.keys1)))
 
 pub returns-in-Whole : goal.returns-in-Whole
 unfolding operand_part part_for
 returns-in-Whole c =
     let a = c.args in
-    rw (sym c.form_of.ensures.value ∙ c.in-Whole.is) (take_all (length a.command.now - 5) (drop 5 a.command.now) (simp length-drop (omega arith)))
+    rw (sym c.form_of.ensures.outcome ∙ c.in-Whole.is) (take_all (length a.command.now - 5) (drop 5 a.command.now) (simp length-drop (omega arith)))

@@ -15,8 +15,8 @@ use Rattle.wire.proofs.Commands.{next_number_lem}
 use Rattle.wire.proofs.split.next_command.Goals as goal
 
 -- a case with its number
-told : (s : List ℕ) {r : Next} → r ≡ next_command s → record { value : r ≡ next_command s; result_value : next_refusal r ≡ rest_refusal s }
-told s e = record { value = e; result_value = ap next_refusal e ∙ next_number_lem s }
+told : (s : List ℕ) {r : Next} → r ≡ next_command s → record { outcome : r ≡ next_command s; refusal : next_refusal r ≡ rest_refusal s }
+told s e = record { outcome = e; refusal = ap next_refusal e ∙ next_number_lem s }
 
 pub returns-then-rest-eq0 : goal.returns-then-rest-eq0
 unfolding next_command

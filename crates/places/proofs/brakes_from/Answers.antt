@@ -1,0 +1,4 @@
+use Rattle.places.proofs.brakes_from.Goals as goal
+
+pub returns : goal.returns
+returns c = rw (c.rank_of-2.ensures, c.rank_of.ensures)

@@ -1,0 +1,26 @@
+use Prim.Native.Nat.{◌≤◌, ◌-◌}
+use mathlib.Core.Path.{◌≡◌, refl, ◌∙◌}
+use mathlib.Core.List.{◌++◌}
+use native.Mathlib.Omega.{arith}
+use lib.ListN.{length, take, drop}
+use borrow.Author.Rules.{rules}
+use Rattle.laws.proofs.Lists.{copy_past, zip_step, length_zip}
+use Rattle.interval.specs.Judging.{noted_at}
+use Rattle.places.specs.Places.{places, most_curves, noted_all}
+use Rattle.places.proofs.Loops.{no_curve, zero_judged}
+use Rattle.places.proofs.note_all.Goals as goal
+
+pub loop-i-init : goal.loop-i-init
+loop-i-init c = (omega arith, search rules, search rules, refl)
+
+pub loop-i-preserved : goal.loop-i-preserved
+loop-i-preserved c =
+    let a = c.args in
+    let step = zip_step (λ curve j. noted_at curve j.interval) a.curves a.judged a.curves c.loop-i.i no_curve zero_judged c.noted.ensures (omega arith) (omega arith) (omega arith) in
+    (omega arith, c.loop-i.invariant.1, c.loop-i.invariant.2, rw c.loop-i.invariant.3 step)
+
+pub returns : goal.returns
+returns c =
+    let a = c.args in
+    let same = length_zip (λ curve j. noted_at curve j.interval) a.curves a.judged (omega arith) in
+    c.loop-i.invariant.3 ∙ copy_past (noted_all a.curves a.judged) a.curves c.loop-i.i (rw same (omega arith)) (omega arith)
