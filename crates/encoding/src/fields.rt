@@ -245,7 +245,7 @@ fn category_of(byte: u8) -> Category
 }
 
 // A new record, undecided.
-pub fn record_of_lem(s: &[u8]) -> EtRecord
+pub fn record_of(s: &[u8]) -> EtRecord
     ensures { result ≡ record_of s.now }
 {
     EtRecord {
@@ -258,7 +258,7 @@ pub fn record_of_lem(s: &[u8]) -> EtRecord
 fn new_record_in_range(s: &[u8]) -> bool
     ensures { result ≡ new_record_in_range s.now }
 {
-    let et = record_of_lem(s);
+    let et = record_of(s);
     let curve = et.curve;
     (byte_at(s, 1) <= 3) & curve_in_range(curve)
 }

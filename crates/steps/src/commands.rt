@@ -15,7 +15,7 @@ use boards::{end_record, give_record, pass_signal};
 use brake_test::{begun_test, left_test};
 use brakes::release::{brakes_by, fresh_brakes};
 use encoding::fields::{
-    curve_of, event_in, event_speed, reading_of, record_of_lem, route_in, section_of, signal_in,
+    curve_of, event_in, event_speed, reading_of, record_of, route_in, section_of, signal_in,
     train_of,
 };
 use encoding::numbers::{code_of, is_state, state_of};
@@ -88,7 +88,7 @@ fn new_record(s: &[u8], track: Track) -> Track
     ensures { result ≡ with_records track (given_record (record_of s.now) track.records) }
 {
     let records = track.records;
-    with_records(track, give_record(record_of_lem(s), records))
+    with_records(track, give_record(record_of(s), records))
 }
 
 fn signal_passed(s: &[u8], track: Track) -> Track

@@ -12,7 +12,7 @@ with-records-requires : tie.Need-with-records-requires
 with-records-requires c κs = tt
 
 returns : tie.Need-returns
-returns c = rw (c.with-records.ensures, c.before.give-record.ensures, c.before.before.record_of_lem.ensures)
+returns c = rw (c.with-records.ensures, c.before.give-record.ensures, c.before.before.record_of.ensures)
 
 pub new-record-spec : {M : Type 1} → statement M
 new-record-spec = tie.close (tie.spec record-of-requires give-record-requires with-records-requires returns)

@@ -1,0 +1,22 @@
+use Prim.Native.Nat.{◌-◌}
+use mathlib.Core.Path.{refl}
+use mathlib.Core.Bool.{not, ◌&&◌}
+use Rattle.records.specs.Lives.{is_superseded}
+use Rattle.rules.specs.Places.{record_places, is_record}
+use Rattle.boards.proofs.Loops.{zero_record, Any, any_step, any_end}
+use borrow.Author.Rules.{rules}
+use native.Mathlib.Omega.{arith}
+use Rattle.boards.proofs.held.keeps_record.Goals as goal
+
+pub loop-i-init : goal.loop-i-init
+loop-i-init c = (omega arith, search rules, refl)
+
+pub loop-i-preserved : goal.loop-i-preserved
+loop-i-preserved c =
+    let a = c.args in
+    any_step (λ et. is_record a.id et && not (is_superseded et.condition)) a.ets c.loop-i.any zero_record c.loop-i.invariant (omega arith) c.is_kept-any.ensures
+
+pub returns : goal.returns
+returns c =
+    let a = c.args in
+    any_end (λ et. is_record a.id et && not (is_superseded et.condition)) a.ets c.loop-i.invariant (omega arith)

@@ -1,0 +1,13 @@
+use Prim.Native.Nat.{◌-◌}
+use mathlib.Core.Path.{refl}
+use Rattle.rules.specs.Places.{record_places, replaced_record}
+use Rattle.boards.proofs.Loops.{zero_record, Changed, change_step, change_end}
+use borrow.Author.Rules.{rules}
+use native.Mathlib.Omega.{arith}
+use Rattle.boards.proofs.held.replace_record.Given as goal
+
+abbrev pub invariant-loop-i : goal.invariant-loop-i
+invariant-loop-i l = Changed (replaced_record l.new) l.ets record_places l.next l.i
+
+abbrev pub decreases-loop-i : goal.decreases-loop-i
+decreases-loop-i l = record_places - l.i

@@ -1,0 +1,8 @@
+use mathlib.Core.Path.{refl}
+use borrow.Author.Rules.{rules}
+use Rattle.rules.specs.Table.{is_slow}
+use Rattle.brakes.proofs.causes.is_slow.Goals as goal
+
+pub returns : goal.returns
+unfolding is_slow
+returns c = refl

@@ -1,0 +1,43 @@
+use mathlib.Core.Path.{◌≡◌, sym, ◌∙◌}
+use mathlib.Core.Bool.{true, false}
+use Rattle.rules.specs.Table.{stands_with, order_of}
+use Rattle.rules.specs.declared.Order.{Order}
+use Rattle.brakes.proofs.causes.order_of.Goals as goal
+
+pub returns-then-stands_with : goal.returns-then-stands_with
+unfolding order_of
+returns-then-stands_with c = rw (sym c.stands_with.ensures ∙ c.if-stands_with.true)
+
+pub returns-then-stands_with-2 : goal.returns-then-stands_with-2
+unfolding order_of
+returns-then-stands_with-2 c =
+    rw (sym c.stands_with.ensures ∙ c.if-stands_with.false, sym c.stands_with-2.ensures ∙ c.if-stands_with-2.true)
+
+pub returns-then-softly : goal.returns-then-softly
+unfolding order_of
+returns-then-softly c =
+    rw (
+      sym c.stands_with.ensures ∙ c.if-stands_with.false,
+      sym c.stands_with-2.ensures ∙ c.if-stands_with-2.false,
+      sym c.stands_with-3.ensures ∙ c.if-stands_with-3.true,
+      c.if-softly.true,
+    )
+
+pub returns-then-stands_with-3 : goal.returns-then-stands_with-3
+unfolding order_of
+returns-then-stands_with-3 c =
+    rw (
+      sym c.stands_with.ensures ∙ c.if-stands_with.false,
+      sym c.stands_with-2.ensures ∙ c.if-stands_with-2.false,
+      sym c.stands_with-3.ensures ∙ c.if-stands_with-3.true,
+      c.if-softly.false,
+    )
+
+pub returns : goal.returns
+unfolding order_of
+returns c =
+    rw (
+      sym c.stands_with.ensures ∙ c.if-stands_with.false,
+      sym c.stands_with-2.ensures ∙ c.if-stands_with-2.false,
+      sym c.stands_with-3.ensures ∙ c.if-stands_with-3.false,
+    )

@@ -1,0 +1,16 @@
+use mathlib.Core.Path.{◌≡◌, sym, ◌∙◌}
+use mathlib.Core.Bool.{false}
+use Rattle.rules.specs.Releases.{is_halt, roll_at}
+use Rattle.brakes.proofs.release.roll_at.Goals as goal
+
+pub returns-then-is_halt : goal.returns-then-is_halt
+unfolding roll_at
+returns-then-is_halt c = rw (sym c.is_halt.ensures ∙ c.if-is_halt.true)
+
+pub returns-then-r : goal.returns-then-r
+unfolding roll_at
+returns-then-r c = rw (sym c.is_halt.ensures ∙ c.if-is_halt.false, c.if-r.true) c.rolled_on.ensures
+
+pub returns : goal.returns
+unfolding roll_at
+returns c = rw (sym c.is_halt.ensures ∙ c.if-is_halt.false, c.if-r.false)

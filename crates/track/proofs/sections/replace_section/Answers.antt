@@ -1,0 +1,21 @@
+use Prim.Native.Nat.{◌-◌}
+use mathlib.Core.Path.{refl}
+use native.Mathlib.Omega.{arith}
+use borrow.Author.Rules.{rules}
+use Rattle.places.specs.Places.{places}
+use Rattle.rules.specs.Places.{free_section, replaced_section}
+use Rattle.boards.proofs.Loops.{Changed, change_step, change_end}
+use Rattle.track.proofs.sections.replace_section.Goals as goal
+
+pub loop-i-init : goal.loop-i-init
+loop-i-init c = (omega arith, search rules, refl)
+
+pub loop-i-preserved : goal.loop-i-preserved
+loop-i-preserved c =
+    let a = c.args in
+    change_step (replaced_section a.new) a.sections free_section c.loop-i.invariant (omega arith) c.replaced_section.ensures
+
+pub returns : goal.returns
+returns c =
+    let a = c.args in
+    change_end (replaced_section a.new) a.sections c.loop-i.invariant (omega arith)

@@ -1,0 +1,22 @@
+use Prim.Native.Nat.{◌-◌}
+use mathlib.Core.Path.{refl}
+use mathlib.Core.Bool.{not, ◌&&◌}
+use native.Mathlib.Omega.{arith}
+use borrow.Author.Rules.{rules}
+use Rattle.places.specs.Places.{places}
+use Rattle.rules.specs.Places.{free_section, is_section}
+use Rattle.boards.proofs.Loops.{Any, any_step, any_end}
+use Rattle.track.proofs.sections.stands_section.Goals as goal
+
+pub loop-i-init : goal.loop-i-init
+loop-i-init c = (omega arith, search rules, refl)
+
+pub loop-i-preserved : goal.loop-i-preserved
+loop-i-preserved c =
+    let a = c.args in
+    any_step (λ section. is_section a.id section && not section.ending) a.sections c.loop-i.any free_section c.loop-i.invariant (omega arith) c.is_standing-any.ensures
+
+pub returns : goal.returns
+returns c =
+    let a = c.args in
+    any_end (λ section. is_section a.id section && not section.ending) a.sections c.loop-i.invariant (omega arith)
