@@ -181,7 +181,7 @@ pub record Steps (r : Reading) (stm : Stm) : Type 0 where
   pub kept_is : kept ≡ kept_of r
   pub all_is : all ≡ all_curves stm.track
   pub judged_is : judged ≡ judged_now stm.train kept all
-  pub vmax_is_lem : vmax ≡ vmax_of stm.train stm.track
+  pub vmax_is : vmax ≡ vmax_of stm.train stm.track
   pub noted_is : noted ≡ noted_by r stm
   pub seen_is : seen ≡ seen_with judged vmax stm.train measured kept noted.since noted.roll
   pub dropped_is : dropped ≡ is_drop measured
@@ -189,7 +189,7 @@ pub record Steps (r : Reading) (stm : Stm) : Type 0 where
   pub loss_is : loss ≡ is_fresh stm.kept.loss r.loss
   pub text_is : text ≡ is_fresh stm.kept.text r.text
   pub left_is : left ≡ cond added.failed added (released_brakes seen loss text added)
-  pub state_is_lem : state ≡ cond added.failed State.FA stm.control.state
+  pub state_is : state ≡ cond added.failed State.FA stm.control.state
   pub whole : length stm.track.curves ≡ places
   pub track_is : track ≡ noted_among stm.track judged
 
@@ -213,7 +213,7 @@ last_by : {r : Reading} {stm : Stm} (s : Steps r stm) → last_of s ≡ next_by 
 last_by s =
     rw (
       track_by_lem s,
-      s.state_is_lem,
+      s.state_is,
       s.left_is,
       s.text_is,
       s.loss_is,
@@ -221,7 +221,7 @@ last_by s =
       s.dropped_is,
       s.seen_is,
       s.noted_is,
-      s.vmax_is_lem,
+      s.vmax_is,
       s.judged_is,
       s.all_is,
       s.kept_is,
@@ -236,10 +236,10 @@ pub judged_last : {r : Reading} {stm : Stm} (s : Steps r stm) → s.judged ≡ j
 judged_last {r} {stm} s = rw (track_by_lem s, s.judged_is, s.all_is) (sym (judged_again stm.train s.kept stm.track))
 
 pub vmax_last : {r : Reading} {stm : Stm} (s : Steps r stm) → s.vmax ≡ vmax_of stm.train s.track
-vmax_last {r} {stm} s = rw (track_by_lem s, s.vmax_is_lem) (sym (vmax_again stm.train s.kept stm.track))
+vmax_last {r} {stm} s = rw (track_by_lem s, s.vmax_is) (sym (vmax_again stm.train s.kept stm.track))
 
 seen_steps : {r : Reading} {stm : Stm} (s : Steps r stm) → s.seen ≡ seen_by r stm (noted_by r stm).roll
-seen_steps s = rw (s.seen_is, s.noted_is, s.vmax_is_lem, s.judged_is, s.all_is, s.kept_is, s.measured_is)
+seen_steps s = rw (s.seen_is, s.noted_is, s.vmax_is, s.judged_is, s.all_is, s.kept_is, s.measured_is)
 
 pub seen_last : {r : Reading} {stm : Stm} (s : Steps r stm) → rolled_in s.seen s.left.roll ≡ seen_in (last_of s)
 seen_last {r} {stm} s =
