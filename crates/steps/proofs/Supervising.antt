@@ -193,6 +193,49 @@ pub record Steps (r : Reading) (stm : Stm) : Type 0 where
   pub whole : length stm.track.curves ≡ places
   pub track_is : track ≡ noted_among stm.track judged
 
+-- the steps, from what the calls return and ensure
+abbrev pub steps_of : {r : Reading} {stm : Stm} {measured : Measured} {kept : Kept} {all : List Curve} {judged : List Judged} {vmax : ℕ}
+    {noted : Brakes} {seen : Seen} {dropped : Bool} {added : Brakes} {loss text : Bool} {left : Brakes} {state : State} {track : Track}
+    → measured ≡ pressed_by r stm → kept ≡ kept_of r → all ≡ all_curves stm.track → judged ≡ judged_now stm.train kept all
+    → vmax ≡ vmax_of stm.train stm.track → noted ≡ noted_by r stm
+    → seen ≡ seen_with judged vmax stm.train measured kept noted.since noted.roll → dropped ≡ is_drop measured
+    → added ≡ added_brakes stm.train dropped seen noted → loss ≡ is_fresh stm.kept.loss r.loss → text ≡ is_fresh stm.kept.text r.text
+    → left ≡ cond added.failed added (released_brakes seen loss text added) → state ≡ cond added.failed State.FA stm.control.state
+    → length stm.track.curves ≡ places → track ≡ noted_among stm.track judged → Steps r stm
+steps_of {measured = measured} {kept} {all} {judged} {vmax} {noted} {seen} {dropped} {added} {loss} {text} {left} {state} {track}
+    e1 e2 e3 e4 e5 e6 e7 e8 e9 e10 e11 e12 e13 e14 e15 =
+    record {
+      measured = measured;
+      kept = kept;
+      all = all;
+      judged = judged;
+      vmax = vmax;
+      noted = noted;
+      seen = seen;
+      dropped = dropped;
+      added = added;
+      loss = loss;
+      text = text;
+      left = left;
+      state = state;
+      track = track;
+      measured_is = e1;
+      kept_is = e2;
+      all_is = e3;
+      judged_is = e4;
+      vmax_is = e5;
+      noted_is = e6;
+      seen_is = e7;
+      dropped_is = e8;
+      added_is = e9;
+      loss_is = e10;
+      text_is = e11;
+      left_is = e12;
+      state_is = e13;
+      whole = e14;
+      track_is = e15;
+    }
+
 abbrev pub last_of : {r : Reading} {stm : Stm} → Steps r stm → Stm
 last_of {r} {stm} s = record {
   control = record { started = stm.control.started; state = s.state };

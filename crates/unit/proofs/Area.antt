@@ -32,28 +32,31 @@ area_fits : (stm : Stm) (command : List ℕ) (area : ℕ) → is_answered (answe
 unfolding answer_of form_of
 area_fits stm command area e = eqb-true area report_length (fits_form (eqb area report_length) _ stm command e)
 
-module _ (stm : Stm) (command area : List ℕ) {outcome : Outcome} (is : outcome ≡ call_of stm command (length area)) where
-  answer_is : outcome.answer ≡ answer_of stm command (length area)
+module _ (stm : Stm) (command before : List ℕ) {o : Outcome} (is : o ≡ call_of stm command (length before)) where
+  answer_is : o.answer ≡ answer_of stm command (length before)
   unfolding call_of
-  answer_is = ap (λ o. o.answer) is
+  answer_is = ap (λ (x : Outcome). x.answer) is
 
-  pub area_written_lem : is_answered outcome.answer ≡ true
-      → cond (eqb report_length (length area)) outcome.stm.last.report area ≡ area_of outcome area
+  pub area_written_lem : is_answered o.answer ≡ true
+      → cond (eqb report_length (length before)) o.stm.last.report before ≡ area_of o before
   unfolding area_of
   area_written_lem e =
-      rw (e, eq-eqb report_length (length area) (sym (area_fits stm command (length area) (ap is_answered (sym answer_is) ∙ e))))
+      rw (e, eq-eqb report_length (length before) (sym (area_fits stm command (length before) (ap is_answered (sym answer_is) ∙ e))))
 
-  pub area_left : is_answered outcome.answer ≡ false → area ≡ area_of outcome area
+  pub area_left : is_answered o.answer ≡ false → before ≡ area_of o before
   unfolding area_of
   area_left e = rw e
 
-  stm_left : is_accepted outcome.answer ≡ false → outcome.stm ≡ stm
+  stm_left : is_accepted o.answer ≡ false → o.stm ≡ stm
   unfolding call_of
-  stm_left e = ap (λ o. o.stm) is ∙ rw (ap is_accepted (sym answer_is) ∙ e)
+  stm_left e = ap (λ (x : Outcome). x.stm) is ∙ rw (ap is_accepted (sym answer_is) ∙ e)
 
   -- the four promises of a call
-  pub call_leaves : {exit : List ℕ} → exit ≡ area_of outcome area
-      → (outcome ≡ call_of stm command (length area))
-      × ((exit ≡ area_of outcome area)
-      × ((is_accepted outcome.answer ≡ false → outcome.stm ≡ stm) × (is_refused outcome.answer ≡ true → exit ≡ area)))
-  call_leaves e = (is, (e, (stm_left, λ r. e ∙ sym (area_left (not-true _ r)))))
+  pub call_leaves : {exit : List ℕ} → exit ≡ area_of o before
+      → record {
+        outcome : o ≡ call_of stm command (length before);
+        area : exit ≡ area_of o before;
+        unit_stays : is_accepted o.answer ≡ false → o.stm ≡ stm;
+        area_stays : is_refused o.answer ≡ true → exit ≡ before;
+      }
+  call_leaves e = record { outcome = is; area = e; unit_stays = stm_left; area_stays = λ r. e ∙ sym (area_left (not-true _ r)) }

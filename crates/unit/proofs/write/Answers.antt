@@ -1,0 +1,7 @@
+use native.Mathlib.Omega.{arith}
+use Rattle.unit.proofs.Area.{written}
+use borrow.Author.Rules.{rules}
+use Rattle.unit.proofs.write.Goals as goal
+
+pub returns : goal.returns
+returns c = written _ _ (omega arith) c.copy_whole.ensures
