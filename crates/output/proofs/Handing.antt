@@ -13,7 +13,9 @@ use Rattle.output.specs.Streams.{lines, handed_on}
 
 pub is_handed : (stm₀ stm : Stm) (whole : Given) (used written : ℕ) (e : Bool) (out₀ out : List ℕ)
     → AllHanded lines stm₀ whole out₀ stm used written e out
-    → (◌≡◌ {A = Handed} (record { stm = stm; used = used; written = written; ended = e }) (handed_on stm₀ whole))
-    × (out ≡ placed (text_by lines stm₀ whole.portions) out₀)
+    → record {
+      outcome : ◌≡◌ {A = Handed} (record { stm = stm; used = used; written = written; ended = e }) (handed_on stm₀ whole);
+      written : out ≡ placed (text_by lines stm₀ whole.portions) out₀;
+    }
 unfolding handed_on
-is_handed stm₀ stm whole used written e out₀ out h = (rw (h.state, h.bytes, h.texts, h.end), h.room)
+is_handed stm₀ stm whole used written e out₀ out h = record { outcome = rw (h.state, h.bytes, h.texts, h.end); written = h.room }

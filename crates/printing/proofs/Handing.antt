@@ -13,7 +13,9 @@ use Rattle.printing.specs.Sheets.{printer, handed_on}
 
 pub is_handed : (trip₀ trip : Trip) (whole : Given) (used written : ℕ) (e : Bool) (out₀ out : List ℕ)
     → AllHanded printer trip₀ whole out₀ trip used written e out
-    → (◌≡◌ {A = Handed} (record { trip = trip; used = used; written = written; ended = e }) (handed_on trip₀ whole))
-    × (out ≡ placed (text_by printer trip₀ whole.portions) out₀)
+    → record {
+      outcome : ◌≡◌ {A = Handed} (record { trip = trip; used = used; written = written; ended = e }) (handed_on trip₀ whole);
+      written : out ≡ placed (text_by printer trip₀ whole.portions) out₀;
+    }
 unfolding handed_on
-is_handed trip₀ trip whole used written e out₀ out h = (rw (h.state, h.bytes, h.texts, h.end), h.room)
+is_handed trip₀ trip whole used written e out₀ out h = record { outcome = rw (h.state, h.bytes, h.texts, h.end); written = h.room }
