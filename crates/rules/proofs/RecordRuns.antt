@@ -23,7 +23,7 @@ use Rattle.records.specs.declared.Condition.{Condition}
 use Rattle.records.specs.declared.EtRecord.{EtRecord}
 use Rattle.records.specs.Numbers.{category_number, category_of, signal_number, route_number, route_of}
 use Rattle.records.specs.Lives.{is_effective, is_superseded, free_record, as_curve, covered_by, moved_record, passed_record}
-use Rattle.records.specs.Claims.{row_number, controls, row_for, Undecided, ByRow}
+use Rattle.records.specs.Claims.{row_number, controls, row_for, ByRow}
 use Rattle.records.proofs.Claims.{controlling_decides, others_leave_it, decided_stays, free_place_stays, superseded_is_told}
 use Rattle.rules.specs.Numbers.{answer_number, is_accepted, is_code, is_state, code_of}
 use Rattle.rules.specs.Operands.{code_byte, number_of, two_at, within, gradient_of, curve_in_range, reading_of, record_of, new_record_in_range, signal_in, route_in, signal_in_range}

@@ -1,12 +1,10 @@
 -- A command that is answered 100 is the last accepted one, byte for byte. Assumes nothing.
 use mathlib.Core.Path.{◌≡◌, refl, sym, ◌∙◌, ap, ap₂}
 use Prim.Native.Nat.{ℕ, zero, suc, ◌≤◌}
-use native.Mathlib.Omega.{arith}
 use native.Mathlib.Nat.{suc_inj, suc-ne-zero, le_of_suc-le-suc, not-suc-le-zero}
-use mathlib.Core.Bool.{Bool, true, false, not, ◌&&◌}
+use mathlib.Core.Bool.{Bool, true, false}
 use mathlib.Core.List.{List, [], ◌∷◌}
-use lib.ListN.{length, get_or, drop}
-use borrow.Author.Tests.{not-true}
+use lib.ListN.{length, drop}
 use Rattle.wire.specs.Numbers.{byte_at}
 use Rattle.wire.specs.Codes.{length_of, longest}
 use Rattle.wire.specs.Form.{form_of}
@@ -15,7 +13,7 @@ use Rattle.wire.specs.declared.codes.Length.{Length}
 use Rattle.wire.proofs.Commands.{whole_length}
 use Rattle.wire.proofs.Equal.{same_equal}
 use Rattle.wire.proofs.Table.{lengths_within}
-use Rattle.rules.specs.Numbers.{answer_number, is_accepted, is_refused}
+use Rattle.rules.specs.Numbers.{is_accepted, is_refused}
 use Rattle.rules.specs.Commands.{padded, remembered, accepted_of}
 use Rattle.rules.specs.Refusals.{is_repeat, whole_answer, answer_for, answer_of}
 use Rattle.rules.specs.Calls.{call_of}

@@ -1,31 +1,21 @@
 -- Which causes stand at the end of a list of commands. Assumes nothing.
 use mathlib.Core.Path.{◌≡◌, refl, sym, subst}
 use Prim.Native.Nat.{ℕ}
-use mathlib.Core.Bool.{Bool, true, false, not, ◌&&◌, ◌||◌, or-true, and-false}
+use mathlib.Core.Bool.{Bool, true, false, not, ◌&&◌}
 use mathlib.Core.List.{List, [], ◌∷◌}
-use borrow.Author.Tests.{not-true, eq-eqb}
-use Rattle.wire.specs.Numbers.{byte_at}
-use Rattle.wire.specs.Form.{operands_of}
-use Rattle.rules.specs.Numbers.{code_of, is_state, is_accepted}
-use Rattle.rules.specs.Operands.{code_byte}
-use Rattle.rules.specs.Table.{stands, ordered_by, is_stop, is_releasable, releasable_when}
-use Rattle.rules.specs.Releases.{is_halt, since_at, since_by, brakes_by}
-use Rattle.rules.specs.Commands.{stopped}
+use borrow.Author.Tests.{not-true}
+use Rattle.rules.specs.Numbers.{is_state, is_accepted}
+use Rattle.rules.specs.Table.{stands}
 use Rattle.rules.specs.Runs.{Sent, answer_to, state_after, state_at_end, none_accepted, is_of, freshens}
-use Rattle.rules.specs.Braking.{reading_in, seen_at, releasable_now, freshly_pressed, presses_for, NoneDroppedWithoutPress}
+use Rattle.rules.specs.Braking.{reading_in, releasable_now, freshly_pressed, presses_for, NoneDroppedWithoutPress}
 use Rattle.rules.specs.History.{is_supervised}
 use Rattle.rules.specs.declared.Code.{Code}
 use Rattle.rules.specs.declared.State.{State}
 use Rattle.rules.specs.declared.Cause.{Cause}
-use Rattle.rules.specs.declared.Since.{Since}
-use Rattle.rules.specs.declared.Brakes.{Brakes}
-use Rattle.rules.specs.declared.Seen.{Seen}
-use Rattle.rules.specs.declared.Reading.{Reading}
 use Rattle.rules.specs.declared.Stm.{Stm}
 use Rattle.rules.proofs.Answers.{after_other}
 use Rattle.rules.proofs.Tests.{both, second_fails}
-use Rattle.rules.proofs.Told.{code_is}
-use Rattle.rules.proofs.Ordering.{brakes_after, since_after, since_seen, ByOther, unchanged, orders, brakes_by_other, stands_added, ordered_and_released, ordered_in_failure, others_drop_nothing}
+use Rattle.rules.proofs.Ordering.{ordered_and_released, ordered_in_failure, others_drop_nothing}
 
 -- ---- any list of commands
 

@@ -4,7 +4,7 @@ use mathlib.Core.Path.{◌≡◌, refl, sym, ◌∙◌, ap, ap₂}
 use mathlib.Core.Bool.{Bool, true, false, ◌&&◌, and-eq-true_iff}
 use mathlib.Core.Logic.{inl, inr}
 use mathlib.Core.List.Memᴰ
-use mathlib.Core.List.{List, [], ◌∷◌, ◌++◌, map, zip_with}
+use mathlib.Core.List.{List, [], ◌∷◌, map, zip_with}
 use Rattle.curve.specs.declared.Curve.{Curve}
 use Rattle.records.specs.declared.EtRecord.{EtRecord}
 use Rattle.curve.specs.declared.Judged.{Judged}

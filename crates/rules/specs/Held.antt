@@ -1,14 +1,12 @@
 -- What commands 20 to 23, 30 and 31 do to curves, sections and the 40, place by place. Proved in proofs/.
 use Rattle.std.specs.Prelude.{◌≡◌, ℕ, Bool, true, false, cond, ◌&&◌, ◌||◌, List, eqb}
 use Rattle.wire.specs.Form.{operands_of}
-use Rattle.curve.specs.declared.Curve.{Curve}
 use Rattle.rules.specs.Numbers.{is_accepted}
 use Rattle.rules.specs.Operands.{curve_of, section_of}
 use Rattle.rules.specs.Runs.{Sent, answer_to, state_after, state_at_end, none_accepted, is_of, freshens}
 use Rattle.rules.specs.History.{first_operand, passes_stop, curve_at, section_at}
 use Rattle.rules.specs.Ground.{EndsWith}
 use Rattle.rules.specs.declared.Code.{Code}
-use Rattle.rules.specs.declared.Section.{Section}
 use Rattle.rules.specs.declared.Stm.{Stm}
 
 -- a place holds this id

@@ -1,7 +1,7 @@
 -- The brake checks over runs (01, "Causes and release": "Each check counts from 0 when its order begins (any order for bit 11,
 -- emergency for the other) and one more at each later report in DA. It judges once, when the count gets to its limit and before
 -- releases; such a drop at any later report up to then satisfies it."). Proved in proofs/.
-use Rattle.std.specs.Prelude.{◌≡◌, ℕ, ◌+◌, ◌≤◌, Bool, true, false, not, ◌&&◌, ◌||◌, List, ◌∷◌, eqb, length}
+use Rattle.std.specs.Prelude.{◌≡◌, ℕ, ◌+◌, ◌≤◌, Bool, true, false, not, ◌&&◌, ◌||◌, List, eqb, length}
 use Rattle.std.specs.Float.Ieee.{le}
 use Rattle.pressure.specs.Convert.{kpa}
 use Rattle.rules.specs.Numbers.{is_accepted}

@@ -1,6 +1,5 @@
 use borrow.Author.Tests.{le-leb, lt-leb}
 use Rattle.rules.specs.BrakeTest.{braked_on}
-use borrow.Author.Rules.{rules}
 use Rattle.brake_test.proofs.braked_on.Goals as goal
 
 pub returns-then-dropped : goal.returns-then-dropped

@@ -1,6 +1,5 @@
 use mir.Syntax.{w16}
 use mir.ValLaws.{to_z-of_z}
-use borrow.Author.Rules.{rules}
 use Rattle.brake_test.proofs.gone_on.Goals as goal
 
 pub returns-in-Idle : goal.returns-in-Idle

@@ -1,5 +1,4 @@
 use mathlib.Core.Path.{sym, ◌∙◌}
-use borrow.Author.Rules.{rules}
 use Rattle.brake_test.proofs.left_test.Goals as goal
 
 pub returns-then-is_running : goal.returns-then-is_running

@@ -1,4 +1,3 @@
-use borrow.Author.Rules.{rules}
 use Rattle.brake_test.proofs.stage_of.Goals as goal
 
 pub returns-in-Waiting : goal.returns-in-Waiting

@@ -3,7 +3,6 @@ use native.Mathlib.Omega.{arith}
 use lib.Dec.{lit<}
 use lib.ListN.{length-set, set}
 use lib.Seq.{drop-set-lt}
-use borrow.Author.Rules.{rules}
 use Rattle.line.proofs.Text.{drop_more, behind_two, one_digit, two_digits, three_digits}
 use Rattle.line.proofs.put_number.Goals as goal
 

@@ -1,11 +1,10 @@
-use Prim.Native.Nat.{◌≤◌, ◌+◌, ◌*◌, ◌-◌}
+use Prim.Native.Nat.{◌+◌}
 use mathlib.Core.Path.{◌≡◌, refl, sym, ◌∙◌}
-use mathlib.Core.List.{◌++◌, append-nil, append_assoc}
+use mathlib.Core.List.{append-nil, append_assoc}
 use native.Mathlib.Omega.{arith}
-use lib.ListN.{length, length-set, take, drop, set}
+use lib.ListN.{length-set, take, set}
 use lib.Seq.{take_all, drop-set-lt}
 use borrow.Author.Rules.{rules}
-use Rattle.wire.specs.Form.{report_length}
 use Rattle.wire.specs.Text.{space}
 use Rattle.line.specs.Lines.{hex_of, report_width}
 use Rattle.line.proofs.Text.{put_one, put_hex, behind_two, drop_more}

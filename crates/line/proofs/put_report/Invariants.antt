@@ -1,14 +1,9 @@
 use Prim.Native.Nat.{◌≤◌, ◌+◌, ◌*◌, ◌-◌}
-use mathlib.Core.Path.{◌≡◌, refl, sym, ◌∙◌}
-use mathlib.Core.List.{◌++◌, append-nil, append_assoc}
-use native.Mathlib.Omega.{arith}
-use lib.ListN.{length, length-set, take, drop, set}
-use lib.Seq.{take_all, drop-set-lt}
-use borrow.Author.Rules.{rules}
+use mathlib.Core.Path.{◌≡◌}
+use mathlib.Core.List.{◌++◌}
+use lib.ListN.{length, take, drop}
 use Rattle.wire.specs.Form.{report_length}
-use Rattle.wire.specs.Text.{space}
-use Rattle.line.specs.Lines.{hex_of, report_width}
-use Rattle.line.proofs.Text.{put_one, put_hex, behind_two, drop_more}
+use Rattle.line.specs.Lines.{hex_of}
 use Rattle.line.proofs.put_report.Given as goal
 
 abbrev pub invariant-loop-i : goal.invariant-loop-i

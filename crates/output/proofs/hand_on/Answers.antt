@@ -5,7 +5,7 @@ use native.Mathlib.Omega.{arith}
 use lib.ListN.{length, take, drop}
 use lib.Seq.{length-take-le}
 use Rattle.portions.specs.Portions.{portion_length}
-use Rattle.portions.proofs.Turns.{Stands, stands_first, stands_next, handed_all, handed_most, handed_last, portion_within, used_within, has_room, told_same}
+use Rattle.portions.proofs.Turns.{stands_first, stands_next, handed_all, handed_most, handed_last, portion_within, used_within, has_room, told_same}
 use Rattle.line.specs.Lines.{line_width}
 use Rattle.output.specs.Streams.{lines}
 use Rattle.output.proofs.Handing.{is_handed}

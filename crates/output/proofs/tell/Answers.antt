@@ -1,6 +1,5 @@
 use mathlib.Core.Path.{◌≡◌, ap, ap₂, ◌∙◌}
 use lib.ListN.{length}
-use borrow.Author.Rules.{rules}
 use borrow.Author.Tests.{le-ltb}
 use Rattle.wire.specs.Bytes.{placed}
 use Rattle.rules.specs.Runs.{moment_of, send}

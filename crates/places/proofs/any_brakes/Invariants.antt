@@ -1,11 +1,8 @@
 use Prim.Native.Nat.{◌≤◌, ◌-◌}
-use mathlib.Core.Path.{◌≡◌, refl, ◌∙◌}
+use mathlib.Core.Path.{◌≡◌}
 use mathlib.Core.Bool.{◌||◌}
-use native.Mathlib.Omega.{arith}
 use lib.ListN.{length, drop}
-use borrow.Author.Rules.{rules}
 use Rattle.places.specs.Places.{most_curves, any_brakes}
-use Rattle.places.proofs.Loops.{any_step, any_end}
 use Rattle.places.proofs.any_brakes.Given as goal
 
 abbrev pub invariant-loop-i : goal.invariant-loop-i

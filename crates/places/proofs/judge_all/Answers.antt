@@ -1,8 +1,7 @@
-use Prim.Native.Nat.{◌≤◌, ◌-◌}
-use mathlib.Core.Path.{◌≡◌, refl, ◌∙◌}
-use mathlib.Core.List.{List, ◌++◌}
+use mathlib.Core.Path.{refl, ◌∙◌}
+use mathlib.Core.List.{List}
 use native.Mathlib.Omega.{arith}
-use lib.ListN.{length, take, drop, replicate, length-map}
+use lib.ListN.{replicate, length-map}
 use borrow.Author.Rules.{rules}
 use Rattle.laws.proofs.Lists.{copy_past, map_step}
 use Rattle.places.specs.Places.{most_curves, judged_here, judged_all}

@@ -1,13 +1,8 @@
 use Prim.Native.Nat.{◌≤◌, ◌-◌}
-use mathlib.Core.Path.{◌≡◌, refl, ◌∙◌}
-use mathlib.Core.List.{List, ◌++◌}
-use native.Mathlib.Omega.{arith}
-use lib.ListN.{length, take, drop, replicate, length-map}
-use borrow.Author.Rules.{rules}
-use Rattle.laws.proofs.Lists.{copy_past, map_step}
-use Rattle.places.specs.Places.{most_curves, judged_here, judged_all}
-use Rattle.curve.specs.declared.Judged.{Judged}
-use Rattle.places.proofs.Loops.{no_curve}
+use mathlib.Core.Path.{◌≡◌}
+use mathlib.Core.List.{◌++◌}
+use lib.ListN.{length, take, drop}
+use Rattle.places.specs.Places.{most_curves, judged_all}
 use Rattle.places.proofs.judge_all.Given as goal
 
 abbrev pub invariant-loop-i : goal.invariant-loop-i

@@ -1,10 +1,7 @@
 use Prim.Native.Nat.{◌≤◌, ◌-◌, min}
-use mathlib.Core.Path.{◌≡◌, ◌∙◌}
-use native.Mathlib.Omega.{arith}
+use mathlib.Core.Path.{◌≡◌}
 use lib.ListN.{length, drop}
-use borrow.Author.Rules.{rules}
 use Rattle.places.specs.Places.{most_curves, least_permitted}
-use Rattle.places.proofs.Loops.{least_start, least_step, least_end}
 use Rattle.places.proofs.least_permitted.Given as goal
 
 abbrev pub invariant-loop-i : goal.invariant-loop-i

@@ -1,11 +1,9 @@
-use Prim.Native.Nat.{◌≤◌, ◌-◌}
-use mathlib.Core.Path.{◌≡◌, refl, ◌∙◌}
-use mathlib.Core.List.{◌++◌}
+use mathlib.Core.Path.{refl, ◌∙◌}
 use native.Mathlib.Omega.{arith}
-use lib.ListN.{length, take, drop, length-map}
+use lib.ListN.{length-map}
 use borrow.Author.Rules.{rules}
 use Rattle.laws.proofs.Lists.{copy_past, map_step}
-use Rattle.places.specs.Places.{places, moved_here, moved_all}
+use Rattle.places.specs.Places.{moved_here, moved_all}
 use Rattle.places.proofs.Loops.{no_curve}
 use Rattle.places.proofs.move_all.Goals as goal
 

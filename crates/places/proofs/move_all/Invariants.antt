@@ -1,12 +1,8 @@
 use Prim.Native.Nat.{◌≤◌, ◌-◌}
-use mathlib.Core.Path.{◌≡◌, refl, ◌∙◌}
+use mathlib.Core.Path.{◌≡◌}
 use mathlib.Core.List.{◌++◌}
-use native.Mathlib.Omega.{arith}
-use lib.ListN.{length, take, drop, length-map}
-use borrow.Author.Rules.{rules}
-use Rattle.laws.proofs.Lists.{copy_past, map_step}
-use Rattle.places.specs.Places.{places, moved_here, moved_all}
-use Rattle.places.proofs.Loops.{no_curve}
+use lib.ListN.{length, take, drop}
+use Rattle.places.specs.Places.{places, moved_all}
 use Rattle.places.proofs.move_all.Given as goal
 
 abbrev pub invariant-loop-i : goal.invariant-loop-i

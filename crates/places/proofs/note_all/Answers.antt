@@ -1,12 +1,9 @@
-use Prim.Native.Nat.{◌≤◌, ◌-◌}
-use mathlib.Core.Path.{◌≡◌, refl, ◌∙◌}
-use mathlib.Core.List.{◌++◌}
+use mathlib.Core.Path.{refl, ◌∙◌}
 use native.Mathlib.Omega.{arith}
-use lib.ListN.{length, take, drop}
 use borrow.Author.Rules.{rules}
 use Rattle.laws.proofs.Lists.{copy_past, zip_step, length_zip}
 use Rattle.interval.specs.Judging.{noted_at}
-use Rattle.places.specs.Places.{places, most_curves, noted_all}
+use Rattle.places.specs.Places.{noted_all}
 use Rattle.places.proofs.Loops.{no_curve, zero_judged}
 use Rattle.places.proofs.note_all.Goals as goal
 

@@ -1,13 +1,8 @@
 use Prim.Native.Nat.{◌≤◌, ◌-◌}
-use mathlib.Core.Path.{◌≡◌, refl, ◌∙◌}
+use mathlib.Core.Path.{◌≡◌}
 use mathlib.Core.List.{◌++◌}
-use native.Mathlib.Omega.{arith}
 use lib.ListN.{length, take, drop}
-use borrow.Author.Rules.{rules}
-use Rattle.laws.proofs.Lists.{copy_past, zip_step, length_zip}
-use Rattle.interval.specs.Judging.{noted_at}
 use Rattle.places.specs.Places.{places, most_curves, noted_all}
-use Rattle.places.proofs.Loops.{no_curve, zero_judged}
 use Rattle.places.proofs.note_all.Given as goal
 
 abbrev pub invariant-loop-i : goal.invariant-loop-i

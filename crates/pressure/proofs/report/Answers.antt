@@ -1,7 +1,6 @@
 use mir.Syntax.{w16}
 use mir.ValLaws.{to_z-of_z}
 use Rattle.pressure.specs.Report.{pressure_at, phase_after, reported}
-use borrow.Author.Rules.{rules}
 use Rattle.pressure.proofs.report.Goals as goal
 
 pub returns : goal.returns

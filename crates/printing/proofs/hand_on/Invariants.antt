@@ -1,15 +1,8 @@
 -- each turn of its loop leaves it standing as `Turns` says, and what it answers has come of all the portions.
-use Prim.Native.Nat.{◌-◌, ◌/◌}
-use mathlib.Core.Path.{sym, ap, ◌∙◌}
-use mathlib.Core.Bool.{true, false}
-use native.Mathlib.Omega.{arith}
-use lib.ListN.{length, take, drop}
-use lib.Seq.{length-take-le}
-use Rattle.portions.specs.Portions.{portion_length}
-use Rattle.portions.proofs.Turns.{Stands, stands_first, stands_next, handed_all, handed_most, handed_last, portion_within, used_within, has_room, told_same}
+use Prim.Native.Nat.{◌-◌}
+use Rattle.portions.proofs.Turns.{Stands}
 use Rattle.sheet.specs.Paging.{added_width}
 use Rattle.printing.specs.Sheets.{printer}
-use Rattle.printing.proofs.Handing.{is_handed}
 use Rattle.printing.proofs.hand_on.Given as goal
 
 abbrev pub invariant-loop-i : goal.invariant-loop-i

@@ -1,4 +1,3 @@
-use borrow.Author.Rules.{rules}
 use Rattle.refusals.proofs.by_form.Goals as goal
 
 pub returns-in-WrongArea : goal.returns-in-WrongArea

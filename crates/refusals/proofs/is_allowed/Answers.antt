@@ -1,4 +1,3 @@
-use borrow.Author.Rules.{rules}
 use Rattle.refusals.proofs.is_allowed.Goals as goal
 
 pub returns-in-Start : goal.returns-in-Start

@@ -1,4 +1,3 @@
-use borrow.Author.Rules.{rules}
 use Rattle.refusals.proofs.is_last.Goals as goal
 
 pub returns : goal.returns

@@ -1,4 +1,3 @@
-use borrow.Author.Rules.{rules}
 use Rattle.refusals.proofs.is_next.Goals as goal
 
 pub returns : goal.returns

@@ -1,4 +1,3 @@
-use borrow.Author.Rules.{rules}
 use Rattle.refusals.proofs.is_path.Goals as goal
 
 pub returns-in-DE : goal.returns-in-DE

@@ -1,8 +1,6 @@
-use Prim.Native.Nat.{◌≤◌, ◌-◌}
-use mathlib.Core.Path.{◌≡◌, refl, ◌∙◌}
-use mathlib.Core.List.{◌++◌}
+use mathlib.Core.Path.{refl, ◌∙◌}
 use native.Mathlib.Omega.{arith}
-use lib.ListN.{take, drop, length, replicate}
+use lib.ListN.{replicate}
 use Rattle.wire.specs.Codes.{longest}
 use Rattle.laws.proofs.Lists.{copy_past}
 use Rattle.rules.specs.Commands.{padded}

@@ -1,12 +1,9 @@
 use Prim.Native.Nat.{◌≤◌, ◌-◌}
-use mathlib.Core.Path.{◌≡◌, refl, ◌∙◌}
+use mathlib.Core.Path.{◌≡◌}
 use mathlib.Core.List.{◌++◌}
-use native.Mathlib.Omega.{arith}
-use lib.ListN.{take, drop, length, replicate}
+use lib.ListN.{take, drop, replicate}
 use Rattle.wire.specs.Codes.{longest}
-use Rattle.laws.proofs.Lists.{copy_past}
 use Rattle.rules.specs.Commands.{padded}
-use Rattle.refusals.proofs.Padding.{padded_length, padded_step}
 use Rattle.refusals.proofs.padded.Given as goal
 
 abbrev pub invariant-loop-i : goal.invariant-loop-i

@@ -1,7 +1,6 @@
 use mathlib.Core.Path.{sym, ◌∙◌}
 use Rattle.unit.proofs.Accepted.{accepted_answered, accepted_outcome, other_outcome}
 use Rattle.unit.proofs.Area.{area_written_lem, area_left, call_leaves}
-use borrow.Author.Rules.{rules}
 use Rattle.unit.proofs.call.Goals as goal
 
 pub returns-then-is_accepted : goal.returns-then-is_accepted

@@ -1,6 +1,5 @@
 use native.Mathlib.Omega.{arith}
 use Rattle.unit.proofs.Area.{written}
-use borrow.Author.Rules.{rules}
 use Rattle.unit.proofs.write.Goals as goal
 
 pub returns : goal.returns

@@ -1,5 +1,4 @@
 use Rattle.areas.proofs.Told.{taken_by_lem}
-use borrow.Author.Rules.{rules}
 use Rattle.areas.proofs.rows.is_taken.Goals as goal
 
 pub returns-in-Signal : goal.returns-in-Signal

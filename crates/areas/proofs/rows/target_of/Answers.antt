@@ -1,8 +1,6 @@
 use mathlib.Core.Path.{sym, ◌∙◌}
 use mathlib.Core.Bool.{true, false}
 use Rattle.areas.proofs.Told.{target_by}
-use borrow.Author.Tests.{not-true, not-false}
-use borrow.Author.Rules.{rules}
 use Rattle.areas.proofs.rows.target_of.Goals as goal
 
 pub returns-then-not-is_taken : goal.returns-then-not-is_taken

@@ -1,6 +1,5 @@
 use borrow.Author.Tests.{le-leb, lt-leb}
 use Rattle.areas.specs.Stays.{covered_stay}
-use borrow.Author.Rules.{rules}
 use Rattle.areas.proofs.stays.covered_stay.Goals as goal
 
 pub returns-then-sum-ge5000 : goal.returns-then-sum-ge5000

@@ -1,4 +1,3 @@
-use borrow.Author.Rules.{rules}
 use Rattle.areas.proofs.stays.missed.Goals as goal
 
 pub returns-in-Missing : goal.returns-in-Missing

@@ -1,7 +1,7 @@
 use Prim.Native.Nat.{ℕ, ◌+◌, ◌≤◌, ◌<◌, ◌-◌}
 use mathlib.Core.Path.{◌≡◌, refl, sym, ◌∙◌}
-use mathlib.Core.List.{List, ◌++◌, map}
-use lib.ListN.{length, take, drop, get_or, replicate, length-append, length-map, get_or-append}
+use mathlib.Core.List.{List, map}
+use lib.ListN.{length, get_or, replicate, length-append, length-map, get_or-append}
 use lib.Seq.{get_or-append-add}
 use Rattle.laws.proofs.Lists.{copy_step, copy_past, get_d_map}
 use Rattle.curve.specs.declared.Curve.{Curve}
@@ -9,7 +9,6 @@ use Rattle.curve.specs.Free.{free_curve}
 use Rattle.places.specs.Places.{places, most_curves}
 use Rattle.records.specs.declared.EtRecord.{EtRecord}
 use Rattle.records.specs.Lives.{as_curve}
-use Rattle.rules.specs.Places.{record_places}
 use Rattle.boards.proofs.Loops.{zero_record}
 use borrow.Author.Rules.{rules}
 use native.Mathlib.Omega.{arith}
@@ -44,7 +43,7 @@ loop-i-preserved c =
       c.loop-i.invariant.2,
       c.loop-i.invariant.3,
       elim c.if-i-lt-PLACES.branch [
-        then-i-lt-PLACES w ↦ w.all-is ∙ rw (c.loop-i.invariant.4, sym (here a.curves a.ets c.loop-i.i c.loop-i.invariant.1 (omega arith))) step
+        | then-i-lt-PLACES w ↦ w.all-is ∙ rw (c.loop-i.invariant.4, sym (here a.curves a.ets c.loop-i.i c.loop-i.invariant.1 (omega arith))) step
         | else-i-lt-PLACES w ↦ w.all-is ∙ rw (w.as_curve.ensures, c.loop-i.invariant.4, sym (behind a.curves a.ets c.loop-i.i c.loop-i.invariant.1 (omega arith))) step
       ],
     )

@@ -1,19 +1,12 @@
-use Prim.Native.Nat.{ℕ, ◌+◌, ◌≤◌, ◌<◌, ◌-◌}
-use mathlib.Core.Path.{◌≡◌, refl, sym, ◌∙◌}
-use mathlib.Core.Logic.{inl, inr}
+use Prim.Native.Nat.{◌≤◌, ◌-◌}
+use mathlib.Core.Path.{◌≡◌}
 use mathlib.Core.List.{List, ◌++◌, map}
-use lib.ListN.{length, take, drop, get_or, replicate, length-append, length-map, get_or-append}
-use lib.Seq.{get_or-append-add}
-use Rattle.laws.proofs.Lists.{copy_step, copy_past, get_d_map}
+use lib.ListN.{length, take, drop}
 use Rattle.curve.specs.declared.Curve.{Curve}
-use Rattle.curve.specs.Free.{free_curve}
 use Rattle.places.specs.Places.{places, most_curves}
 use Rattle.records.specs.declared.EtRecord.{EtRecord}
 use Rattle.records.specs.Lives.{as_curve}
 use Rattle.rules.specs.Places.{record_places}
-use Rattle.boards.proofs.Loops.{zero_record}
-use borrow.Author.Rules.{rules}
-use native.Mathlib.Omega.{arith}
 use Rattle.boards.proofs.held.all_curves.Given as goal
 
 abbrev pub whole : List Curve → List EtRecord → List Curve

@@ -1,7 +1,5 @@
-use Prim.Native.Nat.{◌-◌}
 use mathlib.Core.Path.{refl}
-use Rattle.rules.specs.Places.{record_places}
-use Rattle.boards.proofs.Loops.{zero_record, All, all_step, all_end}
+use Rattle.boards.proofs.Loops.{zero_record, all_step, all_end}
 use borrow.Author.Rules.{rules}
 use native.Mathlib.Omega.{arith}
 use Rattle.boards.proofs.held.all_records_held.Goals as goal

@@ -1,11 +1,8 @@
 use Prim.Native.Nat.{◌-◌}
-use mathlib.Core.Path.{refl}
 use mathlib.Core.Bool.{cond}
 use Rattle.records.specs.Lives.{free_record}
-use Rattle.rules.specs.Places.{record_places, is_record, ended_record}
-use Rattle.boards.proofs.Loops.{zero_record, Changed, change_step, change_end}
-use borrow.Author.Rules.{rules}
-use native.Mathlib.Omega.{arith}
+use Rattle.rules.specs.Places.{record_places, is_record}
+use Rattle.boards.proofs.Loops.{Changed}
 use Rattle.boards.proofs.held.end_record.Given as goal
 
 abbrev pub invariant-loop-i : goal.invariant-loop-i

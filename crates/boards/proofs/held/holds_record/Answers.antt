@@ -1,7 +1,6 @@
-use Prim.Native.Nat.{◌-◌}
 use mathlib.Core.Path.{refl}
-use Rattle.rules.specs.Places.{record_places, is_record}
-use Rattle.boards.proofs.Loops.{zero_record, Any, any_step, any_end}
+use Rattle.rules.specs.Places.{is_record}
+use Rattle.boards.proofs.Loops.{zero_record, any_step, any_end}
 use borrow.Author.Rules.{rules}
 use native.Mathlib.Omega.{arith}
 use Rattle.boards.proofs.held.holds_record.Goals as goal

@@ -1,8 +1,6 @@
-use Prim.Native.Nat.{◌-◌}
 use mathlib.Core.Path.{refl}
 use Rattle.records.specs.Lives.{moved_record}
-use Rattle.rules.specs.Places.{record_places}
-use Rattle.boards.proofs.Loops.{zero_record, Changed, change_step, change_end}
+use Rattle.boards.proofs.Loops.{zero_record, change_step, change_end}
 use borrow.Author.Rules.{rules}
 use native.Mathlib.Omega.{arith}
 use Rattle.boards.proofs.held.move_records.Goals as goal

@@ -1,12 +1,10 @@
-use Prim.Native.Nat.{◌+◌, ◌≤◌, ◌-◌}
+use Prim.Native.Nat.{◌≤◌}
 use mathlib.Core.Path.{◌≡◌, refl, ◌∙◌}
-use mathlib.Core.List.{◌++◌}
-use lib.ListN.{length, take, drop, get_or, length-drop}
+use lib.ListN.{length, drop, get_or, length-drop}
 use lib.Seq.{get_or-drop}
 use Rattle.laws.proofs.Lists.{copy_past, zip_step, length_zip}
-use Rattle.places.specs.Places.{places, most_curves}
+use Rattle.places.specs.Places.{places}
 use Rattle.places.proofs.Loops.{zero_judged}
-use Rattle.rules.specs.Places.{record_places}
 use Rattle.rules.specs.Odometer.{noted_record, noted_records}
 use Rattle.boards.proofs.Loops.{zero_record}
 use borrow.Author.Rules.{rules}

@@ -1,10 +1,6 @@
 use Prim.Native.Nat.{◌-◌}
-use mathlib.Core.Path.{refl}
-use borrow.Author.Tests.{not-true, not-false}
 use Rattle.rules.specs.Places.{record_places}
-use Rattle.boards.proofs.Loops.{zero_record, Passed, pass_step, pass_taken, pass_end}
-use borrow.Author.Rules.{rules}
-use native.Mathlib.Omega.{arith}
+use Rattle.boards.proofs.Loops.{Passed}
 use Rattle.boards.proofs.held.place_record.Given as goal
 
 abbrev pub invariant-loop-i : goal.invariant-loop-i

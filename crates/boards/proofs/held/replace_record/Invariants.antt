@@ -1,9 +1,6 @@
 use Prim.Native.Nat.{◌-◌}
-use mathlib.Core.Path.{refl}
 use Rattle.rules.specs.Places.{record_places, replaced_record}
-use Rattle.boards.proofs.Loops.{zero_record, Changed, change_step, change_end}
-use borrow.Author.Rules.{rules}
-use native.Mathlib.Omega.{arith}
+use Rattle.boards.proofs.Loops.{Changed}
 use Rattle.boards.proofs.held.replace_record.Given as goal
 
 abbrev pub invariant-loop-i : goal.invariant-loop-i

@@ -1,5 +1,4 @@
 use borrow.Author.Tests.{le-leb, lt-leb}
-use borrow.Author.Rules.{rules}
 use Rattle.boards.proofs.life.covered_by.Goals as goal
 
 pub returns-then-sum-ge10000 : goal.returns-then-sum-ge10000

@@ -1,5 +1,4 @@
 use mathlib.Core.Path.{refl}
-use borrow.Author.Rules.{rules}
 use Rattle.rules.specs.Table.{is_slow}
 use Rattle.brakes.proofs.causes.is_slow.Goals as goal
 

@@ -1,7 +1,5 @@
-use mathlib.Core.Path.{◌≡◌, sym, ◌∙◌}
-use mathlib.Core.Bool.{true, false}
-use Rattle.rules.specs.Table.{stands_with, order_of}
-use Rattle.rules.specs.declared.Order.{Order}
+use mathlib.Core.Path.{sym, ◌∙◌}
+use Rattle.rules.specs.Table.{order_of}
 use Rattle.brakes.proofs.causes.order_of.Goals as goal
 
 pub returns-then-stands_with : goal.returns-then-stands_with

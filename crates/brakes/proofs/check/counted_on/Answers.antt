@@ -4,7 +4,6 @@ use mathlib.Core.Bool.{Bool, false, ◌||◌}
 use native.Mathlib.Omega.{arith}
 use lib.Dec.{leb}
 use borrow.Author.Tests.{leb-false}
-use borrow.Author.Rules.{rules}
 use Rattle.rules.proofs.Tests.{neither}
 use Rattle.brakes.proofs.check.counted_on.Goals as goal
 

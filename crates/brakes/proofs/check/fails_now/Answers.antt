@@ -1,4 +1,3 @@
-use borrow.Author.Rules.{rules}
 use Rattle.brakes.proofs.check.fails_now.Goals as goal
 
 pub returns-in-Counting : goal.returns-in-Counting

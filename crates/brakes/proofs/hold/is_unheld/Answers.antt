@@ -1,4 +1,3 @@
-use borrow.Author.Rules.{rules}
 use Rattle.brakes.proofs.hold.is_unheld.Goals as goal
 
 pub returns-in-Undecided : goal.returns-in-Undecided

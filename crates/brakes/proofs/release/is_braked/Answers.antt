@@ -6,7 +6,6 @@ use lib.Signed.{mag}
 use mir.Syntax.{w16, w32}
 use mir.Val.{Fits, SFits, to_z, of_z}
 use mir.ValLaws.{to_z_pos, to_z-of_z}
-use borrow.Author.Rules.{rules}
 use Rattle.rules.specs.Releases.{is_braked}
 use Rattle.brakes.proofs.release.is_braked.Goals as goal
 

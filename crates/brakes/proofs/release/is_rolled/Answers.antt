@@ -1,4 +1,3 @@
-use borrow.Author.Rules.{rules}
 use Rattle.brakes.proofs.release.is_rolled.Goals as goal
 
 pub returns-in-Rolled : goal.returns-in-Rolled

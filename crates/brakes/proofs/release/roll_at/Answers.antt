@@ -1,6 +1,5 @@
-use mathlib.Core.Path.{◌≡◌, sym, ◌∙◌}
-use mathlib.Core.Bool.{false}
-use Rattle.rules.specs.Releases.{is_halt, roll_at}
+use mathlib.Core.Path.{sym, ◌∙◌}
+use Rattle.rules.specs.Releases.{roll_at}
 use Rattle.brakes.proofs.release.roll_at.Goals as goal
 
 pub returns-then-is_halt : goal.returns-then-is_halt

@@ -1,4 +1,3 @@
-use borrow.Author.Rules.{rules}
 use Rattle.brakes.proofs.release.rolled_on.Goals as goal
 
 pub returns-in-Rolled : goal.returns-in-Rolled

@@ -1,4 +1,3 @@
-use borrow.Author.Rules.{rules}
 use Rattle.rules.specs.Odometer.{is_insufficient}
 use Rattle.brakes.proofs.seeing.is_insufficient.Goals as goal
 

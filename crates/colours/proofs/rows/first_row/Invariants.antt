@@ -1,9 +1,6 @@
 use Prim.Native.Nat.{ℕ, ◌-◌}
-use mathlib.Core.Path.{refl, sym, ◌∙◌}
-use native.Mathlib.Omega.{arith}
-use borrow.Author.Rules.{rules}
 use Rattle.colours.specs.Rows.{holds_for}
-use Rattle.colours.proofs.Looking.{Looked, look_here, look_on, look_past}
+use Rattle.colours.proofs.Looking.{Looked}
 use Rattle.colours.proofs.rows.first_row.Given as goal
 
 -- how many rows the table has

@@ -3,7 +3,6 @@ use mathlib.Core.Path.{sym, ◌∙◌, ap₂}
 use mathlib.Core.Bool.{◌&&◌}
 use native.Mathlib.Omega.{arith}
 use lib.Dec.{ltb}
-use borrow.Author.Rules.{rules}
 use borrow.Author.Tests.{ltb-true}
 use Rattle.curve.specs.Boundary.{target_of, is_above, line_for, is_reached_f}
 use Rattle.curve.specs.Ground.{reach_of_f}

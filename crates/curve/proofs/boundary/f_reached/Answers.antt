@@ -1,4 +1,3 @@
-use borrow.Author.Rules.{rules}
 use Rattle.curve.specs.Boundary.{is_reached_f}
 use Rattle.curve.proofs.boundary.f_reached.Goals as goal
 

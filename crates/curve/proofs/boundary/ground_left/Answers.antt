@@ -1,7 +1,6 @@
 use mathlib.Core.Path.{sym}
 use native.Mathlib.Nat.{le_of_lt, mul-le-mul}
 use native.Mathlib.Omega.{arith}
-use borrow.Author.Rules.{rules}
 use Rattle.curve.proofs.Widths.{target_within, deceleration_within, square_within, led_within}
 use Rattle.curve.proofs.Ground.{b_above, reaches_less, ground_left}
 use Rattle.curve.proofs.boundary.ground_left.Goals as goal

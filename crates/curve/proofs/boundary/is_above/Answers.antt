@@ -1,5 +1,4 @@
 use mathlib.Core.Path.{refl}
-use borrow.Author.Rules.{rules}
 use Rattle.curve.specs.Boundary.{is_above}
 use Rattle.curve.proofs.boundary.is_above.Goals as goal
 

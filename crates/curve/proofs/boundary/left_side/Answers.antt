@@ -7,7 +7,6 @@ use lib.IntN.{pos, ◌-ℤ◌}
 use mir.Syntax.{w64}
 use mir.Val.{to_z, of_z}
 use mir.ValLaws.{half_full, to_z_pos, to_z-of_z}
-use borrow.Author.Rules.{rules}
 use Rattle.curve.specs.Boundary.{left_side}
 use Rattle.curve.proofs.Line.{squares_fit, left_fits}
 use Rattle.curve.proofs.boundary.left_side.Goals as goal

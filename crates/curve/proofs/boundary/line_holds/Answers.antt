@@ -1,7 +1,6 @@
 use native.Mathlib.Omega.{arith}
 use mir.Syntax.{w64}
 use mir.ValLaws.{to_z-of_z}
-use borrow.Author.Rules.{rules}
 use Rattle.curve.specs.Boundary.{line, line_for}
 use Rattle.curve.proofs.Line.{left_fits, right_fits}
 use Rattle.curve.proofs.Widths.{target_within, deceleration_within, ground_within}

@@ -1,7 +1,6 @@
 use Prim.Native.Nat.{◌*◌}
 use mathlib.Core.Path.{sym, ◌∙◌}
 use native.Mathlib.Omega.{arith}
-use borrow.Author.Rules.{rules}
 use Rattle.curve.specs.Boundary.{is_above, line_for, is_reached}
 use Rattle.curve.specs.Ground.{reach_of}
 use Rattle.curve.proofs.Widths.{lead_within}

@@ -1,6 +1,5 @@
 use native.Mathlib.Omega.{arith}
 use lib.Dec.{lit≤}
-use borrow.Author.Rules.{rules}
 use Rattle.curve.specs.Boundary.{is_reached}
 use Rattle.curve.proofs.Widths.{lead_within}
 use Rattle.curve.proofs.boundary.reached.Goals as goal

@@ -1,7 +1,6 @@
 use Prim.Native.Nat.{◌*◌}
 use native.Mathlib.Omega.{arith}
 use lib.Dec.{lit≤}
-use borrow.Author.Rules.{rules}
 use Rattle.curve.specs.Boundary.{is_reached_at_kmh}
 use Rattle.curve.proofs.Widths.{lead_within}
 use Rattle.curve.proofs.boundary.reached_at_kmh.Goals as goal

@@ -5,7 +5,6 @@ use lib.IntN.{pos, ◌-ℤ◌, ◌*ℤ◌, pos-*ℤ-pos}
 use mir.Syntax.{w64}
 use mir.Val.{to_z, of_z}
 use mir.ValLaws.{to_z_pos, to_z-of_z}
-use borrow.Author.Rules.{rules}
 use Rattle.curve.specs.Boundary.{right_side}
 use Rattle.curve.proofs.Line.{ground_fits, right_fits}
 use Rattle.curve.proofs.boundary.right_side.Goals as goal

@@ -1,4 +1,3 @@
-use borrow.Author.Rules.{rules}
 use Rattle.curve.specs.Boundary.{target_of}
 use Rattle.curve.proofs.boundary.target_of.Goals as goal
 

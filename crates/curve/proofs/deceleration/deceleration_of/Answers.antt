@@ -1,4 +1,3 @@
-use borrow.Author.Rules.{rules}
 use Rattle.curve.specs.Deceleration.{deceleration_of}
 use Rattle.curve.proofs.deceleration.deceleration_of.Goals as goal
 

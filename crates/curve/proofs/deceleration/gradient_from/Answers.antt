@@ -1,4 +1,4 @@
-use Prim.Native.Nat.{ℕ, suc}
+use Prim.Native.Nat.{suc}
 use mathlib.Core.Path.{◌≡◌, refl, sym, ◌∙◌}
 use mathlib.Core.Bool.{true, false, false≢true}
 use native.Mathlib.Omega.{arith}
@@ -11,7 +11,6 @@ use mir.Val.{Fits, SFits, to_z, of_z}
 use mir.ValLaws.{to_z-of_z}
 use borrow.Author.Tests.{ltb-true}
 use Rattle.curve.specs.declared.Direction.{Direction}
-use Rattle.curve.specs.declared.Gradient.{Gradient}
 use Rattle.curve.specs.Deceleration.{gradient_from}
 use Rattle.curve.proofs.deceleration.gradient_from.Goals as goal
 

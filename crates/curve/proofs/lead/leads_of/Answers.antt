@@ -1,5 +1,4 @@
 use mathlib.Core.Path.{refl}
-use borrow.Author.Rules.{rules}
 use Rattle.curve.specs.Lead.{leads_of}
 use Rattle.curve.proofs.lead.leads_of.Goals as goal
 

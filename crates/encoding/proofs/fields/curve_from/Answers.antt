@@ -1,4 +1,3 @@
-use borrow.Author.Rules.{rules}
 use Rattle.encoding.proofs.fields.curve_from.Goals as goal
 
 pub returns : goal.returns

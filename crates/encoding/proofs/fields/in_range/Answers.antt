@@ -1,4 +1,3 @@
-use borrow.Author.Rules.{rules}
 use Rattle.encoding.proofs.fields.in_range.Goals as goal
 
 pub returns-in-Start : goal.returns-in-Start

@@ -1,4 +1,3 @@
-use borrow.Author.Rules.{rules}
 use Rattle.encoding.proofs.fields.speed_in_range.Goals as goal
 
 pub returns-in-SpeedTarget : goal.returns-in-SpeedTarget

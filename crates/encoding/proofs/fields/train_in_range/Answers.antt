@@ -1,6 +1,5 @@
 use mathlib.Core.Bool.{◌&&◌}
 use lib.Dec.{leb}
-use borrow.Author.Rules.{rules}
 use native.Mathlib.Omega.{arith}
 use Rattle.rules.specs.Operands.{train_in_range}
 use Rattle.encoding.proofs.fields.train_in_range.Goals as goal

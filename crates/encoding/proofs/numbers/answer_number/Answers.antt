@@ -1,4 +1,3 @@
-use borrow.Author.Rules.{rules}
 use Rattle.encoding.proofs.numbers.answer_number.Goals as goal
 
 pub returns-in-Accepted : goal.returns-in-Accepted

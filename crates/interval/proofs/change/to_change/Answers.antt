@@ -1,5 +1,4 @@
 use mathlib.Core.Path.{sym, ◌∙◌}
-use borrow.Author.Rules.{rules}
 use Rattle.curve.specs.declared.Interval.TheVariants.{A, Bf, B, C, D, E, F}
 use Rattle.interval.proofs.Changes.{change_left}
 use Rattle.interval.proofs.change.to_change.Goals as goal

@@ -1,4 +1,3 @@
-use borrow.Author.Rules.{rules}
 use Rattle.interval.specs.Judging.{is_fast}
 use Rattle.interval.proofs.judging.is_fast.Goals as goal
 

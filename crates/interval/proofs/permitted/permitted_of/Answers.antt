@@ -1,11 +1,7 @@
-use Prim.Native.Nat.{◌≤◌, ◌<◌, ◌-◌}
-use mathlib.Core.Path.{◌≡◌, refl, sym, ◌∙◌}
-use mathlib.Core.Bool.{false}
+use mathlib.Core.Path.{refl, sym, ◌∙◌}
 use native.Mathlib.Omega.{arith}
 use lib.Dec.{lit<, lit≤}
-use borrow.Author.Rules.{rules}
 use Rattle.curve.specs.Boundary.{is_reached_at_kmh}
-use Rattle.curve.specs.Ground.{largest_failing}
 use Rattle.interval.specs.Permitted.{permitted_of}
 use Rattle.interval.proofs.Halving.{kmh_zero, kmh_monotone}
 use Rattle.curve.proofs.Largest.{halve_high, halve_end, failing_below}

@@ -1,5 +1,4 @@
 use mathlib.Core.Path.{◌∙◌}
-use borrow.Author.Rules.{rules}
 use Rattle.sheet.specs.Columns.{header_of}
 use Rattle.paging.proofs.lines.header_of.Goals as goal
 

@@ -1,4 +1,3 @@
-use borrow.Author.Rules.{rules}
 use Rattle.sheet.specs.Columns.{filled_in}
 use Rattle.paging.proofs.lines.line_begun.Goals as goal
 

@@ -1,4 +1,3 @@
-use borrow.Author.Rules.{rules}
 use Rattle.sheet.specs.Columns.{filled_in, line_for}
 use Rattle.paging.proofs.lines.line_for.Goals as goal
 

@@ -1,12 +1,10 @@
-use Prim.Native.Nat.{◌+◌, ◌-◌, ◌≤◌}
-use mathlib.Core.Path.{◌≡◌, refl, ap, ◌∙◌}
+use Prim.Native.Nat.{◌-◌}
+use mathlib.Core.Path.{refl, ap, ◌∙◌}
 use mathlib.Core.List.{◌++◌}
 use native.Mathlib.Nat.{mod-lt}
 use native.Mathlib.Omega.{arith}
-use lib.ListN.{length, length-set, take, drop, set}
+use lib.ListN.{length-set, take, set}
 use lib.Seq.{take-set-le}
-use borrow.Author.Rules.{rules}
-use Rattle.sheet.specs.Columns.{leading}
 use Rattle.paging.proofs.Putting.{digit_put, number_put, all_put}
 use Rattle.paging.proofs.lines.put_number.Goals as goal
 

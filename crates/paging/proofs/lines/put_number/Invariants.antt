@@ -1,14 +1,9 @@
 -- The loop's invariant: the digits that are still to come, and what stands behind them, are the same from turn to turn.
 use Prim.Native.Nat.{◌+◌, ◌-◌, ◌≤◌}
-use mathlib.Core.Path.{◌≡◌, refl, ap, ◌∙◌}
+use mathlib.Core.Path.{◌≡◌}
 use mathlib.Core.List.{◌++◌}
-use native.Mathlib.Nat.{mod-lt}
-use native.Mathlib.Omega.{arith}
-use lib.ListN.{length, length-set, take, drop, set}
-use lib.Seq.{take-set-le}
-use borrow.Author.Rules.{rules}
+use lib.ListN.{length, take, drop}
 use Rattle.sheet.specs.Columns.{leading}
-use Rattle.paging.proofs.Putting.{digit_put, number_put, all_put}
 use Rattle.paging.proofs.lines.put_number.Given as goal
 
 abbrev pub invariant-loop-to : goal.invariant-loop-to

@@ -1,8 +1,8 @@
-use Prim.Native.Nat.{◌+◌, ◌-◌, ◌≤◌}
+use Prim.Native.Nat.{◌+◌, ◌-◌}
 use mathlib.Core.Path.{◌≡◌, refl, sym, ap, ◌∙◌}
 use native.Mathlib.Numerals.{add-one}
 use native.Mathlib.Omega.{arith}
-use lib.ListN.{length, length-set, set, get_or}
+use lib.ListN.{length-set, set, get_or}
 use lib.Seq.{paste, paste-zero, paste-suc, take_all}
 use Rattle.sheet.specs.Columns.{in_columns}
 use Rattle.paging.proofs.lines.put_text.Goals as goal

@@ -1,11 +1,8 @@
 -- The loop's invariant: so many bytes of the text stand in the line.
-use Prim.Native.Nat.{◌+◌, ◌-◌, ◌≤◌}
-use mathlib.Core.Path.{◌≡◌, refl, sym, ap, ◌∙◌}
-use native.Mathlib.Numerals.{add-one}
-use native.Mathlib.Omega.{arith}
-use lib.ListN.{length, length-set, set, get_or}
-use lib.Seq.{paste, paste-zero, paste-suc, take_all}
-use Rattle.sheet.specs.Columns.{in_columns}
+use Prim.Native.Nat.{◌-◌, ◌≤◌}
+use mathlib.Core.Path.{◌≡◌}
+use lib.ListN.{length}
+use lib.Seq.{paste}
 use Rattle.paging.proofs.lines.put_text.Given as goal
 
 abbrev pub invariant-loop-i : goal.invariant-loop-i

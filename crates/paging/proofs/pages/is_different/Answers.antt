@@ -1,4 +1,3 @@
-use borrow.Author.Rules.{rules}
 use Rattle.sheet.specs.Pages.{differs}
 use Rattle.paging.proofs.pages.is_different.Goals as goal
 

@@ -1,8 +1,6 @@
 use Prim.Native.Nat.{◌+◌}
 use mathlib.Core.Path.{refl, sym, ◌∙◌}
 use native.Mathlib.Omega.{arith}
-use borrow.Author.Rules.{rules}
-use borrow.Author.Tests.{not-true, not-false}
 use Rattle.wire.specs.Bytes.{placed}
 use Rattle.sheet.specs.Columns.{entry, line_for, header_of}
 use Rattle.paging.proofs.Adding.{no_room, as_before, on_page, next_page, no_page, one_put, two_put, two_long}

@@ -1,5 +1,4 @@
 use native.Mathlib.Omega.{arith}
-use borrow.Author.Rules.{rules}
 use Rattle.portions.proofs.Parts.{part_inside, part_to_end, part_empty}
 use Rattle.portions.proofs.bytes.part.Goals as goal
 

@@ -1,12 +1,9 @@
 -- The loop's invariant: the part's bytes stand before `i`, and from there on what stood there.
 use Prim.Native.Nat.{◌≤◌, ◌-◌, min}
-use mathlib.Core.Path.{◌≡◌, refl, ap, ◌∙◌}
+use mathlib.Core.Path.{◌≡◌}
 use mathlib.Core.List.{◌++◌}
-use native.Mathlib.Omega.{arith}
-use lib.ListN.{length, take, drop, length-set}
-use lib.Seq.{take-length, slice}
-use Rattle.wire.specs.Bytes.{placed}
-use Rattle.portions.proofs.Parts.{part_length, bring_step}
+use lib.ListN.{length, take, drop}
+use lib.Seq.{slice}
 use Rattle.portions.proofs.bytes.to_front.Given as goal
 
 abbrev pub invariant-loop-i : goal.invariant-loop-i

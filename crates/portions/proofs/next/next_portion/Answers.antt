@@ -1,5 +1,4 @@
 use mathlib.Core.Path.{sym}
-use borrow.Author.Rules.{rules}
 use Rattle.portions.specs.Portions.{portion_at, next_portion}
 use Rattle.portions.proofs.next.next_portion.Goals as goal
 

@@ -1,4 +1,3 @@
-use borrow.Author.Rules.{rules}
 use lib.Ieee.{of_bits, of_int}
 use Rattle.pressure.specs.Convert.{cylinder_of}
 use Rattle.pressure.proofs.convert.cylinder.Goals as goal

@@ -1,6 +1,5 @@
 use mir.Syntax.{w16}
 use mir.ValLaws.{to_z-of_z}
-use borrow.Author.Rules.{rules}
 use lib.Ieee.{of_bits, of_int}
 use Rattle.pressure.specs.Convert.{halved_of}
 use Rattle.pressure.proofs.convert.halved.Goals as goal

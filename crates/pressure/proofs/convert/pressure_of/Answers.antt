@@ -1,6 +1,5 @@
 use mathlib.Core.Path.{sym, ◌∙◌}
 use Rattle.pressure.specs.Convert.{converted_of, pressure_of}
-use borrow.Author.Rules.{rules}
 use Rattle.pressure.proofs.convert.pressure_of.Goals as goal
 
 pub returns-then-is_low : goal.returns-then-is_low

@@ -1,4 +1,3 @@
-use borrow.Author.Rules.{rules}
 use lib.Ieee.{of_bits, of_int}
 use Rattle.pressure.specs.Convert.{is_high, sensor_fault}
 use Rattle.pressure.proofs.convert.sensor_fault.Goals as goal

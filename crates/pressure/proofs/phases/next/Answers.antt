@@ -1,6 +1,5 @@
 use mathlib.Core.Path.{sym, ◌∙◌}
 use Rattle.pressure.specs.Phases.{next_of}
-use borrow.Author.Rules.{rules}
 use Rattle.pressure.proofs.phases.next.Goals as goal
 
 pub returns-in-Waiting : goal.returns-in-Waiting

@@ -3,7 +3,6 @@ use native.Mathlib.Omega.{arith}
 use borrow.Author.Tests.{lt-ltb, le-ltb}
 use Rattle.pressure.specs.Phases.{set_of}
 use Rattle.pressure.specs.Reference.{changed_of}
-use borrow.Author.Rules.{rules}
 use Rattle.pressure.proofs.phases.set.Goals as goal
 
 pub returns-then-reports-lt9 : goal.returns-then-reports-lt9

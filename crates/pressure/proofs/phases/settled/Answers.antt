@@ -2,7 +2,6 @@ use Prim.Native.Nat.{◌+◌}
 use native.Mathlib.Omega.{arith}
 use borrow.Author.Tests.{lt-ltb, le-ltb}
 use Rattle.pressure.specs.Phases.{settled_of}
-use borrow.Author.Rules.{rules}
 use Rattle.pressure.proofs.phases.settled.Goals as goal
 
 pub returns-then-reports-lt29 : goal.returns-then-reports-lt29

@@ -1,6 +1,5 @@
 use mathlib.Core.Path.{sym, ◌∙◌}
 use Rattle.pressure.specs.Phases.{waited_of}
-use borrow.Author.Rules.{rules}
 use Rattle.pressure.proofs.phases.waited.Goals as goal
 
 pub returns-then-is_normal : goal.returns-then-is_normal

@@ -1,5 +1,4 @@
 use mathlib.Core.Path.{sym, ◌∙◌}
-use borrow.Author.Rules.{rules}
 use lib.Ieee.{of_bits, of_int, div}
 use Rattle.pressure.specs.Convert.{halved_of}
 use Rattle.pressure.specs.Reference.{changed_reference, changed_of}

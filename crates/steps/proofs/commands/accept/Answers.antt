@@ -5,7 +5,6 @@ use Rattle.rules.specs.Numbers.{code_of}
 use Rattle.rules.specs.Commands.{carried_out, remembered}
 use Rattle.rules.specs.declared.Code.{Code}
 use Rattle.rules.specs.declared.Stm.{Stm}
-use borrow.Author.Rules.{rules}
 use Rattle.steps.proofs.commands.accept.Goals as goal
 
 -- a command by the code that is known

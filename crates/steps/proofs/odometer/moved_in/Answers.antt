@@ -1,4 +1,4 @@
-use mathlib.Core.Path.{◌≡◌, sym, subst₂}
+use mathlib.Core.Path.{◌≡◌, subst₂}
 use mathlib.Core.Bool.{true, false, ◌||◌}
 use Rattle.rules.specs.Odometer.{moves}
 use Rattle.steps.proofs.odometer.moved_in.Goals as goal

@@ -1,4 +1,3 @@
-use native.Mathlib.Omega.{arith}
 use Rattle.rules.specs.Reports.{messages_of}
 use Rattle.steps.proofs.report.messages_of.Goals as goal
 

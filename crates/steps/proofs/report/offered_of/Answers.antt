@@ -1,4 +1,3 @@
-use native.Mathlib.Omega.{arith}
 use Rattle.rules.specs.Reports.{offered_of}
 use Rattle.steps.proofs.report.offered_of.Goals as goal
 

@@ -1,7 +1,4 @@
-use mathlib.Core.Path.{◌≡◌, sym, ◌∙◌}
-use mathlib.Core.Bool.{false}
-use Rattle.rules.specs.declared.State.{State}
-use Rattle.rules.specs.Numbers.{is_state}
+use mathlib.Core.Path.{sym, ◌∙◌}
 use Rattle.steps.proofs.report.order_outside.Goals as goal
 
 pub returns-then-is_state : goal.returns-then-is_state

@@ -1,12 +1,10 @@
-use Prim.Native.Nat.{◌-◌}
 use mathlib.Core.Path.{refl}
 use mathlib.Core.Bool.{cond}
 use native.Mathlib.Omega.{arith}
 use borrow.Author.Rules.{rules}
-use Rattle.places.specs.Places.{places}
 use Rattle.curve.specs.Free.{free_curve}
 use Rattle.rules.specs.Places.{is_curve, ended_curve}
-use Rattle.boards.proofs.Loops.{Changed, change_step, change_end}
+use Rattle.boards.proofs.Loops.{change_step, change_end}
 use Rattle.track.proofs.curves.end_curve.Goals as goal
 
 pub loop-i-init : goal.loop-i-init

@@ -1,12 +1,9 @@
 use Prim.Native.Nat.{◌-◌}
-use mathlib.Core.Path.{refl}
 use mathlib.Core.Bool.{cond}
-use native.Mathlib.Omega.{arith}
-use borrow.Author.Rules.{rules}
 use Rattle.places.specs.Places.{places}
 use Rattle.curve.specs.Free.{free_curve}
-use Rattle.rules.specs.Places.{is_curve, ended_curve}
-use Rattle.boards.proofs.Loops.{Changed, change_step, change_end}
+use Rattle.rules.specs.Places.{is_curve}
+use Rattle.boards.proofs.Loops.{Changed}
 use Rattle.track.proofs.curves.end_curve.Given as goal
 
 abbrev pub invariant-loop-i : goal.invariant-loop-i

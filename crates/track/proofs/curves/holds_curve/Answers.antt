@@ -1,11 +1,9 @@
-use Prim.Native.Nat.{◌-◌}
 use mathlib.Core.Path.{refl}
 use native.Mathlib.Omega.{arith}
 use borrow.Author.Rules.{rules}
-use Rattle.places.specs.Places.{places}
 use Rattle.curve.specs.Free.{free_curve}
 use Rattle.rules.specs.Places.{is_curve}
-use Rattle.boards.proofs.Loops.{Any, any_step, any_end}
+use Rattle.boards.proofs.Loops.{any_step, any_end}
 use Rattle.track.proofs.curves.holds_curve.Goals as goal
 
 pub loop-i-init : goal.loop-i-init

@@ -1,11 +1,9 @@
-use Prim.Native.Nat.{◌-◌}
 use mathlib.Core.Path.{refl}
 use native.Mathlib.Omega.{arith}
 use borrow.Author.Rules.{rules}
 use borrow.Author.Tests.{not-true, not-false}
-use Rattle.places.specs.Places.{places}
 use Rattle.curve.specs.Free.{free_curve}
-use Rattle.boards.proofs.Loops.{Passed, pass_step, pass_taken, pass_end}
+use Rattle.boards.proofs.Loops.{pass_step, pass_taken, pass_end}
 use Rattle.track.proofs.curves.place_curve.Goals as goal
 
 pub loop-i-init : goal.loop-i-init

@@ -1,11 +1,7 @@
 use Prim.Native.Nat.{◌-◌}
-use mathlib.Core.Path.{refl}
-use native.Mathlib.Omega.{arith}
-use borrow.Author.Rules.{rules}
 use Rattle.places.specs.Places.{places}
-use Rattle.curve.specs.Free.{free_curve}
 use Rattle.rules.specs.Places.{replaced_curve}
-use Rattle.boards.proofs.Loops.{Changed, change_step, change_end}
+use Rattle.boards.proofs.Loops.{Changed}
 use Rattle.track.proofs.curves.replace_curve.Given as goal
 
 abbrev pub invariant-loop-i : goal.invariant-loop-i

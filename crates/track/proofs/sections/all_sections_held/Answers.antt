@@ -1,10 +1,8 @@
-use Prim.Native.Nat.{◌-◌}
 use mathlib.Core.Path.{refl}
 use native.Mathlib.Omega.{arith}
 use borrow.Author.Rules.{rules}
-use Rattle.places.specs.Places.{places}
 use Rattle.rules.specs.Places.{free_section}
-use Rattle.boards.proofs.Loops.{All, all_step, all_end}
+use Rattle.boards.proofs.Loops.{all_step, all_end}
 use Rattle.track.proofs.sections.all_sections_held.Goals as goal
 
 pub loop-i-init : goal.loop-i-init

@@ -1,11 +1,9 @@
-use Prim.Native.Nat.{◌-◌}
 use mathlib.Core.Path.{refl}
 use mathlib.Core.Bool.{cond}
 use native.Mathlib.Omega.{arith}
 use borrow.Author.Rules.{rules}
-use Rattle.places.specs.Places.{places}
 use Rattle.rules.specs.Places.{free_section, is_section, ending_section, ended_section}
-use Rattle.boards.proofs.Loops.{Changed, change_step, change_end}
+use Rattle.boards.proofs.Loops.{change_step, change_end}
 use Rattle.track.proofs.sections.end_section.Goals as goal
 
 pub loop-i-init : goal.loop-i-init

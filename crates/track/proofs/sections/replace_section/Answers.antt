@@ -1,10 +1,8 @@
-use Prim.Native.Nat.{◌-◌}
 use mathlib.Core.Path.{refl}
 use native.Mathlib.Omega.{arith}
 use borrow.Author.Rules.{rules}
-use Rattle.places.specs.Places.{places}
 use Rattle.rules.specs.Places.{free_section, replaced_section}
-use Rattle.boards.proofs.Loops.{Changed, change_step, change_end}
+use Rattle.boards.proofs.Loops.{change_step, change_end}
 use Rattle.track.proofs.sections.replace_section.Goals as goal
 
 pub loop-i-init : goal.loop-i-init

@@ -1,10 +1,7 @@
 use Prim.Native.Nat.{◌-◌}
-use mathlib.Core.Path.{refl}
-use native.Mathlib.Omega.{arith}
-use borrow.Author.Rules.{rules}
 use Rattle.places.specs.Places.{places}
-use Rattle.rules.specs.Places.{free_section, replaced_section}
-use Rattle.boards.proofs.Loops.{Changed, change_step, change_end}
+use Rattle.rules.specs.Places.{replaced_section}
+use Rattle.boards.proofs.Loops.{Changed}
 use Rattle.track.proofs.sections.replace_section.Given as goal
 
 abbrev pub invariant-loop-i : goal.invariant-loop-i

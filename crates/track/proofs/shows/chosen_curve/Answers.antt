@@ -1,10 +1,6 @@
-use Prim.Native.Nat.{◌≤◌, ◌-◌}
-use mathlib.Core.Path.{◌≡◌, ◌∙◌}
+use mathlib.Core.Path.{◌∙◌}
 use mathlib.Core.Bool.{false}
-use lib.ListN.{length}
-use Rattle.places.specs.Places.{places, most_curves}
-use Rattle.rules.specs.Shows.{no_candidate, chosen_from}
-use Rattle.track.proofs.Showing.{candidates, chosen_at, chosen_step, chosen_end}
+use Rattle.track.proofs.Showing.{chosen_step, chosen_end}
 use borrow.Author.Rules.{rules}
 use native.Mathlib.Omega.{arith}
 use Rattle.track.proofs.shows.chosen_curve.Goals as goal

@@ -1,5 +1,4 @@
 use Rattle.rules.specs.Shows.{goes_before}
-use borrow.Author.Rules.{rules}
 use Rattle.track.proofs.shows.goes_before.Goals as goal
 
 pub returns : goal.returns

@@ -1,13 +1,11 @@
-use Prim.Native.Nat.{◌+◌, ◌-◌, ◌≤◌, min}
+use Prim.Native.Nat.{◌+◌, ◌-◌}
 use mathlib.Core.Path.{◌≡◌}
-use mathlib.Core.List.{map, foldr}
 use native.Mathlib.Omega.{arith}
-use lib.ListN.{length, drop, drop_of_length-le}
+use lib.ListN.{length, drop_of_length-le}
 use borrow.Author.Rules.{rules}
 use Rattle.laws.proofs.Lists.{drop_step}
 use Rattle.places.specs.Places.{places}
 use Rattle.rules.specs.Places.{free_section}
-use Rattle.rules.specs.Speeds.{section_speed}
 use Rattle.track.proofs.whole.least_speed.Goals as goal
 
 pub loop-i-init : goal.loop-i-init

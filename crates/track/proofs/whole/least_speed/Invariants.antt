@@ -1,12 +1,8 @@
-use Prim.Native.Nat.{◌+◌, ◌-◌, ◌≤◌, min}
+use Prim.Native.Nat.{◌≤◌, min}
 use mathlib.Core.Path.{◌≡◌}
 use mathlib.Core.List.{map, foldr}
-use native.Mathlib.Omega.{arith}
-use lib.ListN.{length, drop, drop_of_length-le}
-use borrow.Author.Rules.{rules}
-use Rattle.laws.proofs.Lists.{drop_step}
+use lib.ListN.{length, drop}
 use Rattle.places.specs.Places.{places}
-use Rattle.rules.specs.Places.{free_section}
 use Rattle.rules.specs.Speeds.{section_speed}
 use Rattle.track.proofs.whole.least_speed.Given as goal
 

@@ -1,9 +1,7 @@
-use Prim.Native.Nat.{◌≤◌, ◌-◌}
-use mathlib.Core.Path.{◌≡◌, refl, ◌∙◌}
-use mathlib.Core.List.{◌++◌}
+use mathlib.Core.Path.{refl, ◌∙◌}
 use native.Mathlib.Omega.{arith}
 use borrow.Author.Tests.{eq-eqb, ne_eqb}
-use lib.ListN.{take, drop, length, length-set}
+use lib.ListN.{length-set}
 use Rattle.wire.specs.Bytes.{copied}
 use Rattle.laws.proofs.Lists.{copy_step, copy_past}
 use Rattle.wire.proofs.bytes.copy_whole.Goals as goal

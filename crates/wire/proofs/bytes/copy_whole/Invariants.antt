@@ -1,12 +1,8 @@
 -- The loop's invariant: the target has the source's bytes before `i`, and its own from there on.
 use Prim.Native.Nat.{◌≤◌, ◌-◌}
-use mathlib.Core.Path.{◌≡◌, refl, ◌∙◌}
+use mathlib.Core.Path.{◌≡◌}
 use mathlib.Core.List.{◌++◌}
-use native.Mathlib.Omega.{arith}
-use borrow.Author.Tests.{eq-eqb, ne_eqb}
-use lib.ListN.{take, drop, length, length-set}
-use Rattle.wire.specs.Bytes.{copied}
-use Rattle.laws.proofs.Lists.{copy_step, copy_past}
+use lib.ListN.{take, drop, length}
 use Rattle.wire.proofs.bytes.copy_whole.Given as goal
 
 abbrev pub invariant-loop-i : goal.invariant-loop-i

@@ -1,8 +1,6 @@
-use Prim.Native.Nat.{◌≤◌, ◌-◌}
-use mathlib.Core.Path.{◌≡◌, refl, sym, ap, ◌∙◌}
+use mathlib.Core.Path.{refl, sym, ap, ◌∙◌}
 use native.Mathlib.Omega.{arith}
-use lib.ListN.{drop, length}
-use Rattle.wire.specs.Bytes.{same_bytes}
+use lib.ListN.{length}
 use Rattle.laws.proofs.Lists.{not_true_false}
 use Rattle.wire.proofs.Equal.{same_equal, same_on, same_off, same_past}
 use Rattle.wire.proofs.bytes.same.Goals as goal

@@ -1,8 +1,6 @@
-use Prim.Native.Nat.{◌≤◌, ◌-◌}
-use mathlib.Core.Path.{◌≡◌, refl, sym, ◌∙◌}
+use mathlib.Core.Path.{refl, sym, ◌∙◌}
 use native.Mathlib.Omega.{arith}
-use lib.ListN.{length, drop}
-use Rattle.wire.specs.Codes.{commands, length_in, length_of}
+use Rattle.wire.specs.Codes.{commands, length_of}
 use Rattle.wire.proofs.Table.{look_here, look_on, look_past}
 use Rattle.wire.proofs.codes.length_of.Goals as goal
 

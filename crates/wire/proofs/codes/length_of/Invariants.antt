@@ -1,10 +1,8 @@
 -- The loop's invariant: the code's length in the rows from `i` on is its length in the whole table, and the table is that of `commands`.
 use Prim.Native.Nat.{◌≤◌, ◌-◌}
-use mathlib.Core.Path.{◌≡◌, refl, sym, ◌∙◌}
-use native.Mathlib.Omega.{arith}
+use mathlib.Core.Path.{◌≡◌}
 use lib.ListN.{length, drop}
 use Rattle.wire.specs.Codes.{commands, length_in, length_of}
-use Rattle.wire.proofs.Table.{look_here, look_on, look_past}
 use Rattle.wire.proofs.codes.length_of.Given as goal
 
 abbrev pub invariant-loop-i : goal.invariant-loop-i

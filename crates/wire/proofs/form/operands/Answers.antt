@@ -1,16 +1,15 @@
 -- A command of whole form has the five bytes of code and number: the shortest has no more.
-use Prim.Native.Nat.{ℕ, ◌≤◌, ◌-◌}
+use Prim.Native.Nat.{ℕ, ◌-◌}
 use mathlib.Core.Path.{◌≡◌, refl, sym, ◌∙◌}
 use mathlib.Core.List.{List, [], ◌∷◌}
 use native.Mathlib.Omega.{arith}
-use borrow.Author.Rules.{rules}
 use denote.Enum.Declared.{tag_of}
 use types.Run.{OneOf, miss}
 use borrow.Enum.Refused.{opened}
 use lib.ListN.{length, drop, length-drop}
 use lib.Seq.{take_all}
 use Rattle.wire.specs.declared.form.Form.{Form}
-use Rattle.wire.specs.Form.{form_of, part_for, operand_part}
+use Rattle.wire.specs.Form.{part_for, operand_part}
 use Rattle.wire.specs.contracts.form.Form.{the_type}
 use Rattle.wire.proofs.Commands.{whole_five}
 use Rattle.wire.proofs.form.operands.Goals as goal

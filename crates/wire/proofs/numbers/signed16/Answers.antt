@@ -1,5 +1,4 @@
 -- , by the laws for every width at 16 bits.
-use native.Mathlib.Omega.{arith}
 use lib.Dec.{lit≤}
 use mir.Syntax.{w16, w32}
 use Rattle.wire.proofs.Values.{signed_bits, wide_fits, narrow_fits, signed_less}

@@ -1,5 +1,4 @@
 -- , by the laws for every width at 8 bits.
-use native.Mathlib.Omega.{arith}
 use lib.Dec.{lit≤}
 use mir.Syntax.{w8, w16}
 use Rattle.wire.proofs.Values.{signed_bits, wide_fits, narrow_fits, signed_less}
