@@ -60,8 +60,8 @@ shape_of-output-then-is_last c =
     let tell = c.tell-told in
     let which = c.next_portion-portion.ensures in
     let long = c.portion_length-n.ensures in
-    let in-loop = c.loop-i-test.true in
-    told_same printer added_width a.trip a.bytes.now a.output.now a.all most c.loop-i.trip c.loop-i.used c.loop-i.written c.loop-i.i c.loop-i.output c.loop-i.invariant in-loop
+    let in_loop = c.loop-i-test.true in
+    told_same printer added_width a.trip a.bytes.now a.output.now a.all most c.loop-i.trip c.loop-i.used c.loop-i.written c.loop-i.i c.loop-i.output c.loop-i.invariant in_loop
     _ _ tell.result.trip tell.result.written tell.new.room which long tell.ensures.trip_after tell.ensures.count tell.ensures.short tell.ensures.written
 
 pub returns-then-is_last : goal.returns-then-is_last
@@ -71,10 +71,10 @@ returns-then-is_last c =
     let tell = c.tell-told in
     let which = c.next_portion-portion.ensures in
     let long = c.portion_length-n.ensures in
-    let in-loop = c.loop-i-test.true in
+    let in_loop = c.loop-i-test.true in
     let end = sym c.is_last.ensures ∙ c.if-is_last.true in
     is_handed a.trip tell.result.trip _ _ _ true a.output.now _
-    (handed_last printer added_width a.trip a.bytes.now a.output.now a.all most c.loop-i.trip c.loop-i.used c.loop-i.written c.loop-i.i c.loop-i.output c.loop-i.invariant in-loop
+    (handed_last printer added_width a.trip a.bytes.now a.output.now a.all most c.loop-i.trip c.loop-i.used c.loop-i.written c.loop-i.i c.loop-i.output c.loop-i.invariant in_loop
     _ _ tell.result.trip tell.result.written tell.new.room which long tell.ensures.trip_after tell.ensures.count tell.ensures.short tell.ensures.written end)
 
 pub overflow_add-i : goal.overflow_add-i
@@ -90,10 +90,10 @@ loop-i-preserved c =
     let tell = c.tell-told in
     let which = c.next_portion-portion.ensures in
     let long = c.portion_length-n.ensures in
-    let in-loop = c.loop-i-test.true in
+    let in_loop = c.loop-i-test.true in
     let some = c.if-n-eq0.false in
     let more = sym c.is_last.ensures ∙ c.if-is_last.false in
-    stands_next printer added_width a.trip a.bytes.now a.output.now a.all most c.loop-i.trip c.loop-i.used c.loop-i.written c.loop-i.i c.loop-i.output c.loop-i.invariant in-loop
+    stands_next printer added_width a.trip a.bytes.now a.output.now a.all most c.loop-i.trip c.loop-i.used c.loop-i.written c.loop-i.i c.loop-i.output c.loop-i.invariant in_loop
     _ _ tell.result.trip tell.result.written tell.new.room which long tell.ensures.trip_after tell.ensures.count tell.ensures.short tell.ensures.written some more
 
 pub shape_of-output : goal.shape_of-output

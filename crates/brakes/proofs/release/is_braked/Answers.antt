@@ -11,11 +11,11 @@ use Rattle.brakes.proofs.release.is_braked.Goals as goal
 
 -- seven times the full deceleration
 module _ (full : ℕ) (f : Fits w16 full) where
-  full-value : to_z w32 full ≡ pos full
-  full-value = to_z_pos w32 full (omega (arith, f.fits))
+  full_value : to_z w32 full ≡ pos full
+  full_value = to_z_pos w32 full (omega (arith, f.fits))
 
-  full-fits : SFits w32 (pos 7 *ℤ pos full)
-  full-fits = record { sfits = omega (arith, f.fits) }
+  full_fits : SFits w32 (pos 7 *ℤ pos full)
+  full_fits = record { sfits = omega (arith, f.fits) }
 
 module _ (z : ℤ) (f : SFits w16 z) where
   wide_fits : SFits w32 (to_z w16 (of_z w16 z))
@@ -25,20 +25,20 @@ module _ (z : ℤ) (f : SFits w16 z) where
   wide_value = to_z-of_z w32 _ wide_fits ∙ to_z-of_z w16 z f
 
 -- the measured deceleration in the wider width
-mag-neg : (n : ℕ) → mag (neg_ℤ (pos n)) ≤ n
-mag-neg zero = omega arith
-mag-neg (suc n) = omega arith
+mag_neg : (n : ℕ) → mag (neg_ℤ (pos n)) ≤ n
+mag_neg zero = omega arith
+mag_neg (suc n) = omega arith
 
 -- ten times the measured deceleration
-ten-fits : (z : ℤ) → SFits w16 z → SFits w32 (pos 10 *ℤ z)
-ten-fits (pos n) f = record { sfits = omega (arith, f.sfits) }
-ten-fits (negsuc n) f = record { sfits = omega (arith, f.sfits, mag-neg (10 * suc n)) }
+ten_fits : (z : ℤ) → SFits w16 z → SFits w32 (pos 10 *ℤ z)
+ten_fits (pos n) f = record { sfits = omega (arith, f.sfits) }
+ten_fits (negsuc n) f = record { sfits = omega (arith, f.sfits, mag_neg (10 * suc n)) }
 
 measured-fits : (c : goal.After-struct_told-1) → SFits w16 c.args.r.measured
 measured-fits c = record { sfits = c.struct_told-1.given.1.1.0.1 }
 
 pub overflow_mul-result : goal.overflow_mul-result
-overflow_mul-result c = rw (full-value c.args.full c.ranges.full) (full-fits c.args.full c.ranges.full)
+overflow_mul-result c = rw (full_value c.args.full c.ranges.full) (full_fits c.args.full c.ranges.full)
 
 pub overflow_cast-result-2 : goal.overflow_cast-result-2
 overflow_cast-result-2 c = wide_fits c.args.r.measured (measured-fits c)
@@ -46,15 +46,15 @@ overflow_cast-result-2 c = wide_fits c.args.r.measured (measured-fits c)
 pub overflow_mul-result-2 : goal.overflow_mul-result-2
 overflow_mul-result-2 c =
     let z = c.args.r.measured in
-    rw (wide_value z (measured-fits c)) (ten-fits z (measured-fits c))
+    rw (wide_value z (measured-fits c)) (ten_fits z (measured-fits c))
 
 pub returns : goal.returns
 unfolding is_braked
 returns c =
     let z = c.args.r.measured in
     rw (
-      full-value c.args.full c.ranges.full,
-      to_z-of_z w32 _ (full-fits c.args.full c.ranges.full),
+      full_value c.args.full c.ranges.full,
+      to_z-of_z w32 _ (full_fits c.args.full c.ranges.full),
       wide_value z (measured-fits c),
-      to_z-of_z w32 _ (ten-fits z (measured-fits c)),
+      to_z-of_z w32 _ (ten_fits z (measured-fits c)),
     )

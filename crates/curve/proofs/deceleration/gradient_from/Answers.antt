@@ -27,18 +27,18 @@ less : (x : ℤ) → SFits w8 x → lt_z x (pos 0) ≡ true → SFits w16 (pos 0
 less (pos n) f t = absurd (omega (arith, ltb-true n 0 t))
 less (negsuc n) f t = record { sfits = omega (arith, f.sfits) }
 
-size-down : (x : ℤ) → SFits w8 x → lt_z x (pos 0) ≡ true → T (non_neg (pos 0 -ℤ x)) × Fits w8 (nat_abs (pos 0 -ℤ x))
-size-down (pos n) f t = absurd (omega (arith, ltb-true n 0 t))
-size-down (negsuc n) f t = (tt, record { fits = omega (arith, f.sfits) })
+size_down : (x : ℤ) → SFits w8 x → lt_z x (pos 0) ≡ true → T (non_neg (pos 0 -ℤ x)) × Fits w8 (nat_abs (pos 0 -ℤ x))
+size_down (pos n) f t = absurd (omega (arith, ltb-true n 0 t))
+size_down (negsuc n) f t = (tt, record { fits = omega (arith, f.sfits) })
 
 down : (x : ℤ) → lt_z x (pos 0) ≡ true → record { direction = Direction.Down; size = nat_abs (pos 0 -ℤ x) } ≡ gradient_from x
 down (pos n) t = absurd (omega (arith, ltb-true n 0 t))
 down (negsuc n) t = rw (zero-add (suc n))
 
 -- and one that is not
-size-up : (x : ℤ) → SFits w8 x → lt_z x (pos 0) ≡ false → T (non_neg x) × Fits w8 (nat_abs x)
-size-up (pos n) f t = (tt, record { fits = omega (arith, f.sfits) })
-size-up (negsuc n) f t = absurd (false≢true (sym t))
+size_up : (x : ℤ) → SFits w8 x → lt_z x (pos 0) ≡ false → T (non_neg x) × Fits w8 (nat_abs x)
+size_up (pos n) f t = (tt, record { fits = omega (arith, f.sfits) })
+size_up (negsuc n) f t = absurd (false≢true (sym t))
 
 up : (x : ℤ) → lt_z x (pos 0) ≡ false → record { direction = Direction.Up; size = nat_abs x } ≡ gradient_from x
 up (pos n) t = refl
@@ -62,12 +62,12 @@ pub overflow_cast-result : goal.overflow_cast-result
 overflow_cast-result c =
     let x = c.args.slope in
     let f = c.ranges.slope in
-    rw (wide x f, to_z-of_z w16 (pos 0 -ℤ x) (less x f (negative c))) (size-down x f (negative c))
+    rw (wide x f, to_z-of_z w16 (pos 0 -ℤ x) (less x f (negative c))) (size_down x f (negative c))
 
 pub overflow_cast-result-else-wide-lt0 : goal.overflow_cast-result-else-wide-lt0
 overflow_cast-result-else-wide-lt0 c =
     let x = c.args.slope in
-    rw (wide x c.ranges.slope) (size-up x c.ranges.slope (positive c))
+    rw (wide x c.ranges.slope) (size_up x c.ranges.slope (positive c))
 
 pub returns-then-wide-lt0 : goal.returns-then-wide-lt0
 returns-then-wide-lt0 c =
