@@ -5,31 +5,34 @@
 
 use portions::INPUT;
 use printing::OUTPUT;
+use std::io;
+use std::io::{Read, Write};
 
-// Writes the first bytes of the pages, and tells whether all were written.
-fn write(pages: &[u8; OUTPUT], written: usize) -> bool {
-    io::write_all(1, portions::part(pages, 0, written))
+// Writes the first bytes of the pages.
+fn write<W: Write>(stdout: &mut W, pages: &[u8; OUTPUT], written: usize) -> io::Result<()> {
+    stdout.write_all(portions::part(pages, 0, written))
 }
 
-// Runs until the stream ends or a write fails. Memory is fixed, whatever the input.
-fn main() {
+// Runs until the stream ends, or a read or a write fails. Memory is fixed, whatever the input.
+fn run<R: Read, W: Write>(stdin: &mut R, stdout: &mut W) -> io::Result<()> {
     let mut input = [0u8; INPUT];
     let mut pages = [0u8; OUTPUT];
     let mut trip = printing::fresh();
     let mut left = 0;
-    // A proved loop ends, and nothing says that the input does: so the turns are counted down.
-    let mut turns = u64::MAX;
-    while turns > 0 {
-        turns -= 1;
-        let to = stdio::read(&mut input, left);
+    // A proved loop ends, and nothing says that the input does: so the turns are counted.
+    for _ in 0..u64::MAX {
+        let to = stdio::read(stdin, &mut input, left)?;
         let handed = printing::turn(trip, &input, left, to, &mut pages);
-        if !write(&pages, handed.written) {
-            return;
-        }
+        write(stdout, &pages, handed.written)?;
         if handed.ended {
-            return;
+            break;
         }
         trip = handed.trip;
         left = stdio::keep(&mut input, handed.used, to);
     }
+    Ok(())
+}
+
+fn main(rt: HostRuntime) -> io::Result<()> {
+    run(&mut rt.stdin(), &mut rt.stdout())
 }
