@@ -160,11 +160,7 @@ fn judge_places(
 }
 
 // The places after a record.
-fn after(
-    out: &mut impl Write,
-    r: &[u8],
-    curves: [Curve; PLACES],
-) -> io::Result<[Curve; PLACES]> {
+fn after(out: &mut impl Write, r: &[u8], curves: [Curve; PLACES]) -> io::Result<[Curve; PLACES]> {
     match wire::byte_at(r, 0) {
         1 => put_in_place(out, r, true, curves),
         2 => judge_places(out, r, curves),
