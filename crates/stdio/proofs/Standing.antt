@@ -8,7 +8,7 @@ use mathlib.Core.List.{flatten}
 use lib.Seq.{take-append_seam}
 use Rattle.console.specs.Bytes.{AppendsFront}
 use Rattle.portions.specs.Portions.{given_of, left_of, portions_of}
-use Rattle.portions.specs.Reads.{Writer, text_by, state_by, at_first, turn_of, after_reads}
+use Rattle.portions.specs.Reads.{Writer, text_by, state_by, turn_of}
 use Rattle.portions.proofs.Giving.{given_joined, given_over, left_joined, empty_ends}
 use Rattle.portions.proofs.Reading.{text_joined, state_joined, cut_anyhow, written_is_a_beginning}
 
