@@ -4,21 +4,22 @@
 #![tactic(auto)]
 
 use rules::{Outcome, Stm};
+use std::io;
+use std::io::Write;
 
 const RECORD: usize = 34;
 
 const AREA: usize = 32;
 
-fn put(text: &[u8]) {
-    io::write_all(1, text);
+fn put(out: &mut impl Write, text: &[u8]) -> io::Result<()> {
+    out.write_all(text)
 }
 
-fn put_bytes(bytes: &[u8]) {
-    let mut i = 0;
-    while i < bytes.len() {
-        put(&[wire::digit(bytes[i] / 16), wire::digit(bytes[i])]);
-        i += 1;
+fn put_bytes(out: &mut impl Write, bytes: &[u8]) -> io::Result<()> {
+    for byte in bytes {
+        put(out, &[wire::digit(*byte / 16), wire::digit(*byte)])?;
     }
+    Ok(())
 }
 
 // The command of a record.
@@ -40,31 +41,35 @@ fn hand_record(stm: Stm, record: &[u8; RECORD], area: &mut [u8; AREA]) -> Outcom
     hand(stm, command_of(record), area, n)
 }
 
-fn put_outcome(record: &[u8; RECORD], outcome: Outcome, area: &[u8; AREA]) {
+fn put_outcome(
+    out: &mut impl Write,
+    record: &[u8; RECORD],
+    outcome: Outcome,
+    area: &[u8; AREA],
+) -> io::Result<()> {
     let n = wire::byte_at(record, 0) as usize;
     let answer = outcome.answer;
-    put(b"answer ");
-    io::print_decimal(1, unit::answer_number(answer) as u64);
-    put(b" area ");
-    put_bytes(portions::part(area, 0, n));
-    put(b" operands ");
-    put_bytes(unit::operands(command_of(record), n));
-    put(b"\n");
+    write!(out, "answer {} area ", unit::answer_number(answer))?;
+    put_bytes(out, portions::part(area, 0, n))?;
+    put(out, b" operands ")?;
+    put_bytes(out, unit::operands(command_of(record), n))?;
+    put(out, b"\n")
 }
 
-// A proved loop ends, and nothing says that the input does: so the turns are counted down.
-fn main() {
+// A proved loop ends, and nothing says that the input does: so the turns are counted.
+fn main(rt: HostRuntime) -> io::Result<()> {
+    let mut input = rt.stdin();
+    let mut out = rt.stdout();
     let mut stm = unit::fresh();
-    let mut turns = u32::MAX;
-    while turns > 0 {
-        turns -= 1;
+    for _ in 0..u32::MAX {
         let mut record = [0u8; RECORD];
-        if io::read_full(0, &mut record) < RECORD {
-            return;
+        if console::read_full(&mut input, &mut record)? < RECORD {
+            break;
         }
         let mut area = [0xAAu8; AREA];
         let outcome = hand_record(stm, &record, &mut area);
-        put_outcome(&record, outcome, &area);
+        put_outcome(&mut out, &record, outcome, &area)?;
         stm = outcome.stm;
     }
+    Ok(())
 }

@@ -1,6 +1,8 @@
 // The stream program on no bytes at all.
 #![tactic(auto)]
 
-fn main() {
-    stdio::run();
+use std::io;
+
+fn main(rt: HostRuntime) -> io::Result<()> {
+    stdio::run(&mut rt.stdin(), &mut rt.stdout())
 }

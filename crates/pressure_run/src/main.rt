@@ -8,14 +8,9 @@
 mod text;
 
 use pressure::{Feed, Measured, Phase, Pressures};
+use std::io;
+use std::io::{Read, Write};
 use text::{put, put_kpa};
-
-// The feedback after a record, and whether there was one.
-#[derive(Clone, Copy)]
-struct Outcome {
-    read: bool,
-    feedback: Measured,
-}
 
 // A feedback with a reference whose tenth report comes next, the pressure being at the reference.
 fn tenth(reference: f32) -> Measured {
@@ -49,80 +44,74 @@ fn feed_of(kind: u8) -> Feed {
     }
 }
 
-fn put_feed(feed: Feed) {
+fn put_feed(out: &mut impl Write, feed: Feed) -> io::Result<()> {
     match feed {
-        Feed::Pipe => put(b"pipe "),
-        Feed::Cylinder => put(b"cylinder "),
+        Feed::Pipe => put(out, b"pipe "),
+        Feed::Cylinder => put(out, b"cylinder "),
     }
 }
 
-fn put_phase(phase: Phase) {
+fn put_phase(out: &mut impl Write, phase: Phase) -> io::Result<()> {
     match phase {
-        Phase::Waiting => put(b" waiting"),
+        Phase::Waiting => put(out, b" waiting"),
         Phase::Settling {
             saved: _,
             reports: _,
-        } => put(b" settling"),
+        } => put(out, b" settling"),
         Phase::Set {
             reference: _,
             reports: _,
-        } => put(b" set"),
+        } => put(out, b" set"),
     }
 }
 
-fn put_measured(m: Measured) {
+fn put_measured(out: &mut impl Write, m: Measured) -> io::Result<()> {
     let p = m.pressures;
-    put(b": P_INT ");
-    put_kpa(p.pressure);
-    put(b" P_REF ");
-    put_kpa(p.reference);
-    put(b" drop ");
-    put_kpa(pressure::drop_of(p));
-    let phase = m.phase;
-    put_phase(phase);
+    put(out, b": P_INT ")?;
+    put_kpa(out, p.pressure)?;
+    put(out, b" P_REF ")?;
+    put_kpa(out, p.reference)?;
+    put(out, b" drop ")?;
+    put_kpa(out, pressure::drop_of(p))?;
+    put_phase(out, m.phase)?;
     if m.fault {
-        put(b" TRYCKGIVARFEL");
+        put(out, b" TRYCKGIVARFEL")?;
     }
-    put(b"\n");
+    put(out, b"\n")
 }
 
-// Reads one record and prints its line.
-fn turn(feedback: Measured) -> Outcome {
+// Reads one record, prints its line and tells the feedback that it left, or none where the input has ended.
+fn turn(
+    input: &mut impl Read,
+    out: &mut impl Write,
+    feedback: Measured,
+) -> io::Result<Option<Measured>> {
     let mut record = [0u8; 8];
-    if io::read_full(0, &mut record) < 8 {
-        return Outcome {
-            read: false,
-            feedback,
-        };
+    if console::read_full(input, &mut record)? < 8 {
+        return Ok(None);
     }
     let feed = feed_of(wire::byte_at(&record, 1));
     let full = wire::be16(&record, 2);
     let external = wire::signed16(wire::be16(&record, 4));
     let before = found(wire::byte_at(&record, 0), feedback, wire::be16(&record, 6));
-    let phase = before.phase;
-    let pressures = before.pressures;
-    let after = pressure::report(phase, pressures, feed, full, external);
-    put_feed(feed);
-    io::print_decimal(1, full as u64);
-    put(b" ");
-    put_kpa(external as f32 / 2.0);
-    put_measured(after);
-    Outcome {
-        read: true,
-        feedback: after,
-    }
+    let after = pressure::report(before.phase, before.pressures, feed, full, external);
+    put_feed(out, feed)?;
+    write!(out, "{full} ")?;
+    put_kpa(out, external as f32 / 2.0)?;
+    put_measured(out, after)?;
+    Ok(Some(after))
 }
 
-// A proved loop ends, and nothing says that the input does: so the turns are counted down.
-fn main() {
+// A proved loop ends, and nothing says that the input does: so the turns are counted.
+fn main(rt: HostRuntime) -> io::Result<()> {
+    let mut input = rt.stdin();
+    let mut out = rt.stdout();
     let mut feedback = pressure::fresh();
-    let mut turns = u32::MAX;
-    while turns > 0 {
-        let t = turn(feedback);
-        if !t.read {
-            return;
+    for _ in 0..u32::MAX {
+        match turn(&mut input, &mut out, feedback)? {
+            Some(next) => feedback = next,
+            None => break,
         }
-        feedback = t.feedback;
-        turns -= 1;
     }
+    Ok(())
 }

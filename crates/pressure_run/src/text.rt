@@ -1,7 +1,9 @@
-// Writing text and figures to standard output.
+// Writing text and figures.
+use std::io;
+use std::io::Write;
 
-pub fn put(text: &[u8]) {
-    io::write_all(1, text);
+pub fn put(out: &mut impl Write, text: &[u8]) -> io::Result<()> {
+    out.write_all(text)
 }
 
 fn digit(n: u64) -> u8 {
@@ -9,35 +11,39 @@ fn digit(n: u64) -> u8 {
 }
 
 // A number of 65,536ths, with five decimals.
-fn put_parts(n: u64) {
-    io::print_decimal(1, n / 65536);
+fn put_parts(out: &mut impl Write, n: u64) -> io::Result<()> {
+    write!(out, "{}", n / 65536)?;
     let f = n % 65536 * 100000 / 65536;
-    put(&[
-        b'.',
-        digit(f / 10000),
-        digit(f / 1000),
-        digit(f / 100),
-        digit(f / 10),
-        digit(f),
-    ]);
+    put(
+        out,
+        &[
+            b'.',
+            digit(f / 10000),
+            digit(f / 1000),
+            digit(f / 100),
+            digit(f / 10),
+            digit(f),
+        ],
+    )
 }
 
 // A figure that is not negative; none is as large as 2 ^ 64 65,536ths.
-fn put_size(x: f32) {
+fn put_size(out: &mut impl Write, x: f32) -> io::Result<()> {
     let parts = x * 65536.0;
     if parts > -1.0 {
         if parts < 18446744073709551616.0 {
-            put_parts(std::num::truncating_f32_to_u64(parts));
+            return put_parts(out, std::num::truncating_f32_to_u64(parts));
         }
     }
+    Ok(())
 }
 
 // A figure in kPa.
-pub fn put_kpa(x: f32) {
+pub fn put_kpa(out: &mut impl Write, x: f32) -> io::Result<()> {
     if x < 0.0 {
-        put(b"-");
-        put_size(-x);
+        put(out, b"-")?;
+        put_size(out, -x)
     } else {
-        put_size(x);
+        put_size(out, x)
     }
 }

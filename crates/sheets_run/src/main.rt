@@ -2,6 +2,9 @@
 // and 1,024 bytes of which the stream is the first.
 #![tactic(auto)]
 
+use std::io;
+use std::io::Write;
+
 const STREAM: usize = 1024;
 
 const RECORD: usize = 2 + STREAM;
@@ -15,22 +18,23 @@ fn stream_of(record: &[u8; RECORD]) -> &[u8] {
     portions::part(record, 2, 2 + n)
 }
 
-fn print(record: &[u8; RECORD]) {
+fn print(out: &mut impl Write, record: &[u8; RECORD]) -> io::Result<()> {
     let mut pages = [0u8; PAGES];
     let handed = printing::hand_on(printing::fresh(), stream_of(record), true, &mut pages);
-    io::write_all(1, portions::part(&pages, 0, handed.written));
-    io::write_all(1, b"end of the sheet\n");
+    out.write_all(portions::part(&pages, 0, handed.written))?;
+    out.write_all(b"end of the sheet\n")
 }
 
-// A proved loop ends, and nothing says that the input does: so the turns are counted down.
-fn main() {
-    let mut turns = u32::MAX;
-    while turns > 0 {
-        turns -= 1;
+// A proved loop ends, and nothing says that the input does: so the turns are counted.
+fn main(rt: HostRuntime) -> io::Result<()> {
+    let mut input = rt.stdin();
+    let mut out = rt.stdout();
+    for _ in 0..u32::MAX {
         let mut record = [0u8; RECORD];
-        if io::read_full(0, &mut record) < RECORD {
-            return;
+        if console::read_full(&mut input, &mut record)? < RECORD {
+            break;
         }
-        print(&record);
+        print(&mut out, &record)?;
     }
+    Ok(())
 }

@@ -1,42 +1,58 @@
-// Reads raw command bytes from standard input, hands them on, and writes the lines to standard output, as 01 says.
+// Reads raw command bytes from a stream, hands them on, and writes the lines to another, as 01 says.
 //
 // What is handed on, and which bytes are written for it, is proved in `output`. Here nothing is decided: a turn is a read, that
 // function, a write.
 #![tactic(auto)]
 
-ghost use Rattle.std.specs.Prelude.{◌≡◌, ◌≤◌, length, take};
+ghost use Rattle.std.specs.Prelude.{◌≡◌, ◌<◌, ◌≤◌, length, take, IfOk, IfSome, OnOk, OnErr};
+ghost use Rattle.std.specs.Io.KnownBytes.{Appends, Consumes, IsAtEnd, Keeps};
 ghost use Rattle.std.proofs.Math.Seq.{slice};
+ghost use Rattle.console.specs.Bytes.{AppendsFront};
 ghost use Rattle.wire.specs.Bytes.{placed};
+ghost use Rattle.portions.specs.Reads.{input_room};
+ghost use Rattle.output.specs.Streams.{stream_of};
 
 use output::OUTPUT;
 use portions::INPUT;
+use std::io;
+use std::io::{ErrorKind, Read, Write};
 
-// Reads into a buffer after the bytes that are left, and tells where the bytes end then. An input that has ended, and a read that
-// fails, bring none.
-fn read_after(buffer: &mut [u8], left: usize) -> usize
+// Reads into a buffer after the bytes that are left, and tells where the bytes end then. An input that has ended brings none. A read that
+// fails leaves them too.
+fn read_after<R: Read>(stdin: &mut R, buffer: &mut [u8], left: usize) -> io::Result<usize>
     ensures buffer_unchanged { take left buffer.new ≡ take left buffer.old }
-    ensures lower_bound { left ≤ result }
-    ensures upper_bound { left ≤ length buffer.old → result ≤ length buffer.old }
+    ensures lower_bound { IfOk result (λ to. left ≤ to) }
+    ensures upper_bound { IfOk result (λ to. left ≤ length buffer.old → to ≤ length buffer.old) }
+    ensures bytes { IfOk result (λ to. Consumes (R.remaining stdin.old) (R.remaining stdin.new) (slice left to buffer.new)) }
+    ensures end { IfOk result (λ to. to ≡ left → left < length buffer.old → IsAtEnd (R.remaining stdin.new)) }
+    ensures err { OnErr result (Keeps (R.remaining stdin.old) (R.remaining stdin.new)) }
 {
     if left <= buffer.len() {
         let free = &mut buffer[left..];
-        let got = libc::read(0, free);
-        return left + io::count(got, free);
+        let got = stdin.read(free)?;
+        return Ok(left + got);
     }
-    left
+    Ok(left)
 }
 
 // Reads after the bytes that are left, and tells where the bytes end then.
-pub fn read(input: &mut [u8; INPUT], left: usize) -> usize
+pub fn read<R: Read>(stdin: &mut R, input: &mut [u8; INPUT], left: usize) -> io::Result<usize>
     ensures input_unchanged { take left input.new ≡ take left input.old }
-    ensures lower_bound { left ≤ result }
+    ensures lower_bound { IfOk result (λ to. left ≤ to) }
+    ensures upper_bound { IfOk result (λ to. left ≤ input_room → to ≤ input_room) }
+    ensures bytes { IfOk result (λ to. Consumes (R.remaining stdin.old) (R.remaining stdin.new) (slice left to input.new)) }
+    ensures end { IfOk result (λ to. to ≡ left → left < input_room → IsAtEnd (R.remaining stdin.new)) }
+    ensures err { OnErr result (Keeps (R.remaining stdin.old) (R.remaining stdin.new)) }
 {
-    read_after(input, left)
+    read_after(stdin, input, left)
 }
 
-// Writes the first bytes of the lines, and tells whether all were written.
-fn write(lines: &[u8; OUTPUT], written: usize) -> bool {
-    io::write_all(1, portions::part(lines, 0, written))
+// Writes the first bytes of the lines.
+fn write<W: Write>(stdout: &mut W, lines: &[u8; OUTPUT], written: usize) -> io::Result<()>
+    ensures ok { OnOk result (Appends (W.contents stdout.old) (W.contents stdout.new) (take written lines.now)) }
+    ensures err { OnErr result (AppendsFront (W.contents stdout.old) (W.contents stdout.new) (take written lines.now)) }
+{
+    console::write_all(stdout, portions::part(lines, 0, written))
 }
 
 // Brings the bytes that are not used yet to the front, and tells how many they are.
@@ -47,25 +63,30 @@ pub fn keep(input: &mut [u8; INPUT], used: usize, to: usize) -> usize
     portions::to_front(input, used, to)
 }
 
-// Runs until the stream ends or a write fails. Memory is fixed, whatever the input.
-pub fn run() {
+// Runs until the stream ends, or a read or a write fails. Memory is fixed, whatever the input.
+pub fn run<R: Read, W: Write>(stdin: &mut R, stdout: &mut W) -> io::Result<()>
+    // Where all went well, the output of the whole input is written, however it came in reads.
+    ensures whole { OnOk result (IfSome (R.remaining stdin.old)
+        (λ input. Appends (W.contents stdout.old) (W.contents stdout.new) (stream_of input))) }
+
+    // And whatever failed, what is written is a beginning of it.
+    ensures beginning { IfSome (R.remaining stdin.old)
+        (λ input. AppendsFront (W.contents stdout.old) (W.contents stdout.new) (stream_of input)) }
+{
     let mut input = [0u8; INPUT];
     let mut lines = [0u8; OUTPUT];
     let mut stm = unit::fresh();
     let mut left = 0;
-    // A proved loop ends, and nothing says that the input does: so the turns are counted down.
-    let mut turns = u64::MAX;
-    while turns > 0 {
-        turns -= 1;
-        let to = read(&mut input, left);
+    // A proved loop ends, and nothing says that the input does: so the turns are counted.
+    for _ in 0..u64::MAX {
+        let to = read(stdin, &mut input, left)?;
         let handed = output::turn(stm, &input, left, to, &mut lines);
-        if !write(&lines, handed.written) {
-            return;
-        }
+        write(stdout, &lines, handed.written)?;
         if handed.ended {
-            return;
+            return Ok(());
         }
         stm = handed.stm;
         left = keep(&mut input, handed.used, to);
     }
+    Err(io::Error::from(ErrorKind::TimedOut))
 }

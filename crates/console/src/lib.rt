@@ -1,0 +1,44 @@
+// Reading until a buffer is full and writing all of one, as the programs do.
+#![tactic(auto)]
+
+ghost use Rattle.std.specs.Prelude.{◌<◌, length, take, IfOk, OnOk, OnErr};
+ghost use Rattle.std.specs.Io.{ReadsAtMost};
+ghost use Rattle.std.specs.Io.KnownBytes.{Appends, Consumes, IsAtEnd};
+ghost use Rattle.console.specs.Bytes.{AppendsFront};
+
+use std::io;
+use std::io::{ErrorKind, Read, Write};
+
+/// Reads until the buffer is full or the input has ended, and tells how many bytes came. They stand at the front of the buffer. After an
+/// error some bytes may have come, and the buffer has them.
+pub fn read_full<R: Read>(input: &mut R, buffer: &mut [u8]) -> io::Result<usize>
+    ensures bound { ReadsAtMost result buffer.new }
+    ensures bytes { IfOk result (λ n. Consumes (R.remaining input.old) (R.remaining input.new) (take n buffer.new)) }
+    ensures end { IfOk result (λ n. n < length buffer.new → IsAtEnd (R.remaining input.new)) }
+{
+    let mut n = 0;
+    while n < buffer.len() {
+        let got = input.read(&mut buffer[n..])?;
+        if got == 0 {
+            return Ok(n);
+        }
+        n += got;
+    }
+    Ok(n)
+}
+
+/// Writes all the bytes. Where a write fails or takes none, a beginning of them is out, and no more.
+pub fn write_all<W: Write>(output: &mut W, bytes: &[u8]) -> io::Result<()>
+    ensures ok { OnOk result (Appends (W.contents output.old) (W.contents output.new) bytes.now) }
+    ensures err { OnErr result (AppendsFront (W.contents output.old) (W.contents output.new) bytes.now) }
+{
+    let mut done = 0;
+    while done < bytes.len() {
+        let n = output.write(&bytes[done..])?;
+        if n == 0 {
+            return Err(io::Error::from(ErrorKind::WriteZero));
+        }
+        done += n;
+    }
+    Ok(())
+}

@@ -1,0 +1,79 @@
+-- A turn of such a loop: a read behind the bytes that are left, what is handed on of the bytes at hand, and the write of its text. Assumes
+-- nothing.
+use Rattle.std.specs.Prelude.{ℕ, ◌≤◌, ◌<◌, Bool, true, false, eqb, Option, IfSome, List, ◌++◌, length, take, drop}
+use Rattle.std.proofs.Common.{◌≡◌, sym, ap, ◌∙◌, le_refl, take-append-drop, take_all}
+use Rattle.std.proofs.Math.Seq.{slice}
+use Rattle.std.proofs.lemmas.Bool.{eqb-true}
+use Rattle.std.specs.Io.KnownBytes.{Appends, Consumes, IsAtEnd}
+use mathlib.Core.Bool.{false≢true}
+use mathlib.Core.List.{flatten}
+use lib.Seq.{take-take, take-append_seam}
+use Rattle.console.specs.Bytes.{AppendsFront}
+use Rattle.wire.specs.Bytes.{placed}
+use Rattle.wire.specs.Codes.{longest}
+use Rattle.portions.specs.Portions.{given_of, left_of, portions_of}
+use Rattle.portions.specs.Reads.{Writer, text_by, state_by}
+use Rattle.portions.proofs.Giving.{all_ended, waits_short}
+use Rattle.stdio.proofs.Standing.{Stands, follows, begun_more, whole}
+
+-- what a read did to a buffer, in which bytes were left at the front
+pub record ReadBehind (source source' : Option (List ℕ)) (left to : ℕ) (before after : List ℕ) : Type 0 where
+  pub within : left ≤ to
+  pub kept : take left after ≡ take left before
+  pub came : Consumes source source' (slice left to after)
+  pub end : to ≡ left → IsAtEnd source'
+
+-- the bytes at hand are those that were left, and those that came
+at_hand : {r r' : Option (List ℕ)} {left to : ℕ} {before after : List ℕ} → ReadBehind r r' left to before after
+    → take to after ≡ take left before ++ slice left to after
+at_hand {left = left} {to = to} {after = after} h =
+    sym (take-append-drop left (take to after)) ∙ ap (λ l. l ++ slice left to after) (take-take left to after h.within ∙ h.kept)
+
+-- a text put at the front of a room is what is written of the room
+pub front_is_text : (text room : List ℕ) → take (length text) (placed text room) ≡ text
+unfolding placed
+front_is_text text room = take-append_seam text (drop (length text) room)
+
+-- all of a text is a beginning of it
+pub all_is_front : (o o' : Option (List ℕ)) (text : List ℕ) → Appends o o' text → AppendsFront o o' text
+all_is_front o o' text written = (length text, rw (take_all (length text) text (le_refl (length text))) written)
+
+-- the bytes that are not used are kept
+pub kept_is_left : (all : Bool) (at_hand room : List ℕ)
+    → let rest = drop (length (flatten (given_of all at_hand).portions)) at_hand in
+    take (length rest) (placed rest room) ≡ left_of all at_hand
+unfolding left_of
+kept_is_left all at_hand room = front_is_text (drop (length (flatten (given_of all at_hand).portions)) at_hand) room
+
+-- a stream that goes on had a read, and leaves less than the longest command
+leaves_short : (all : Bool) (bytes : List ℕ) → (given_of all bytes).ended ≡ false → length (left_of all bytes) < longest
+leaves_short true bytes e = absurd (false≢true (sym e ∙ all_ended bytes))
+leaves_short false bytes e = waits_short bytes e
+
+module _ {X : Type 0} (w : Writer X) (x : X) where
+  pub turn_whole : {r r' o o' : Option (List ℕ)} {state : X} {left : ℕ} {before : List ℕ} → Stands w x r r' o o' state (take left before)
+      → (to : ℕ) (after : List ℕ) (r'' o'' : Option (List ℕ)) → ReadBehind r' r'' left to before after
+      → Appends o' o'' (text_by w state (given_of (eqb to left) (take to after)).portions) → (given_of (eqb to left) (take to after)).ended ≡ true
+      → IfSome r (λ input. Appends o o'' (text_by w x (portions_of input)))
+  turn_whole {left = left} s to after r'' o'' h written ended =
+      whole w x s (eqb to left) (slice left to after) r'' o'' h.came (λ e. h.end (eqb-true to left e)) (rw (at_hand h) at written) (rw (at_hand h) at ended)
+
+  pub turn_begun : {r r' o o' : Option (List ℕ)} {state : X} {left : ℕ} {before : List ℕ} → Stands w x r r' o o' state (take left before)
+      → (to : ℕ) (after : List ℕ) (r'' o'' : Option (List ℕ)) → ReadBehind r' r'' left to before after
+      → AppendsFront o' o'' (text_by w state (given_of (eqb to left) (take to after)).portions)
+      → IfSome r (λ input. AppendsFront o o'' (text_by w x (portions_of input)))
+  turn_begun {left = left} s to after r'' o'' h written =
+      begun_more w x s (eqb to left) (slice left to after) r'' o'' h.came (λ e. h.end (eqb-true to left e)) (rw (at_hand h) at written)
+
+  pub turn_on : {r r' o o' : Option (List ℕ)} {state : X} {left : ℕ} {before : List ℕ} → Stands w x r r' o o' state (take left before)
+      → (to : ℕ) (after : List ℕ) (r'' o'' : Option (List ℕ)) → ReadBehind r' r'' left to before after
+      → Appends o' o'' (text_by w state (given_of (eqb to left) (take to after)).portions) → (given_of (eqb to left) (take to after)).ended ≡ false
+      → Stands w x r r'' o o'' (state_by w state (given_of (eqb to left) (take to after)).portions) (left_of (eqb to left) (take to after))
+      × (length (left_of (eqb to left) (take to after)) < longest)
+  turn_on {r = r} {o = o} {o' = o'} {state = state} {left = left} s to after r'' o'' h written goes_on =
+      (by (eqb to left) written goes_on, leaves_short (eqb to left) (take to after) goes_on)
+    where
+      by : (all : Bool) → Appends o' o'' (text_by w state (given_of all (take to after)).portions) → (given_of all (take to after)).ended ≡ false
+          → Stands w x r r'' o o'' (state_by w state (given_of all (take to after)).portions) (left_of all (take to after))
+      by true out on = absurd (false≢true (sym on ∙ all_ended (take to after)))
+      by false out on = rw (at_hand h) (follows w x s (slice left to after) h.came (rw (at_hand h) at out) (rw (at_hand h) at on))
