@@ -9,7 +9,7 @@ from commands import ACCEPTED, AGAIN, BY_CODE, HEAD, REPORT_LENGTH, report_of
 from text import Mistake, commands_of, title_of
 
 ROOT = os.path.dirname(os.path.dirname(os.path.abspath(__file__)))
-PROGRAM = os.path.join(ROOT, "target", "bin", "stream")
+PROGRAM = os.path.join(ROOT, "crates", "stream", "out", "stream")
 TRIP = ".trip"  # how the name of a trip that is text ends
 
 
@@ -143,7 +143,7 @@ def write_to(name, content):
 def run(stream):
     """What the stream program writes."""
     if not os.path.exists(PROGRAM):
-        raise Unreadable("the stream program is not built: `rt check stream` builds it")
+        raise Unreadable("the stream program is not built: `rt run </dev/null` in crates/stream proves and builds it")
     return subprocess.run([PROGRAM], input=stream, stdout=subprocess.PIPE, check=True).stdout.decode()
 
 
