@@ -4,7 +4,7 @@
     python3 tests/definitions.py SEED COMMANDS
 
 The stream comes from tests/trips.py and the expected lines from tests/plain.rs, which know nothing of the definitions. The checker
-computes the same stream over `callOf` and `areaOf` of crates/rules/specs, in a copy of the repository, and has to find every answer
+computes the same stream over `call_of` and `area_of` of crates/rules/specs, in a copy of the repository, and has to find every answer
 and every area equal. Bytes 14 to 17 of a report are a largest number, which would be walked to; they are computed by the
 division that cases/proofs/ChangeFigures proves equal to it. A few hundred commands take some seconds; from about 400 on the checker
 may stop at its step limit.
@@ -22,37 +22,34 @@ LENGTHS = {0x01: 24, 0x02: 6, 0x10: 14, 0x20: 12, 0x21: 6, 0x22: 8, 0x23: 6, 0x3
 UNTOUCHED = 7  # what every byte of a lent area holds
 
 PROOF = """-- A stream, computed over the definitions.
-use mathlib.Core.Path.{{_≡_, refl}}
-use Prim.Native.Nat.{{ℕ}}
-use mathlib.Core.List.{{List, [], _∷_, _++_}}
-use mathlib.Core.Bool.{{true, cond}}
-use lib.ListN.{{take, drop, replicate}}
-use Rattle·wire.specs.Form.{{reportLength}}
-use Rattle·wire.specs.Bytes.{{sameBytes}}
-use Rattle·curve.specs.Ground.{{never}}
-use Rattle·rules.specs.Numbers.{{answerNumber, isAnswered}}
-use Rattle·rules.specs.Reports.{{four}}
-use Rattle·rules.specs.Commands.{{freshStm}}
-use Rattle·rules.specs.Runs.{{Sent, Moment, moments}}
-use Rattle·rules.specs.History.{{isIn}}
-use Rattle·rules.specs.declared.State.{{State}}
-use Rattle·rules.specs.declared.Stm.{{Stm}}
-use Rattle·rules.proofs.Computing.{{computing}}
-use Rattle·rules.proofs.Written.{{shown}}
-use Rattle·cases·proofs.proofs.ChangeFigures.{{dividedOf}}
+use Rattle.std.specs.Prelude.{{◌≡◌, ℕ, true, cond, List, [], ◌∷◌, ◌++◌, take, drop, replicate}}
+use mathlib.Core.Path.{{refl}}
+use Rattle.wire.specs.Form.{{report_length}}
+use Rattle.wire.specs.Bytes.{{same_bytes}}
+use Rattle.curve.specs.Ground.{{never}}
+use Rattle.rules.specs.Numbers.{{answer_number, is_answered}}
+use Rattle.rules.specs.Reports.{{four}}
+use Rattle.rules.specs.Commands.{{fresh_stm}}
+use Rattle.rules.specs.Runs.{{Sent, Moment, moments}}
+use Rattle.rules.specs.History.{{is_in}}
+use Rattle.rules.specs.declared.State.{{State}}
+use Rattle.rules.specs.declared.Stm.{{Stm}}
+use Rattle.rules.proofs.Computing.{{computing}}
+use Rattle.rules.proofs.Written.{{shown}}
+use Rattle.cases.proofs.ChangeFigures.{{divided_of}}
 
 abbrev send : List ℕ → Sent
-send command = record {{ command = command; area = replicate reportLength {untouched} }}
+send command = record {{ command = command; area = replicate report_length {untouched} }}
 
 abbrev change : Stm → ℕ
-change stm = cond (isIn State.DA stm) (dividedOf (stm .train) (stm .kept) (shown stm)) never
+change stm = cond (is_in State.DA stm) (divided_of stm.train stm.kept (shown stm)) never
 
 abbrev area : Moment → List ℕ
-area m = take 14 (m .area) ++ cond (isAnswered (m .answer)) (four (change (m .stm)) (drop 18 (m .area))) (drop 14 (m .area))
+area m = take 14 m.area ++ cond (is_answered m.answer) (four (change m.stm) (drop 18 m.area)) (drop 14 m.area)
 
 abbrev told : List Moment → List ℕ
 told [] = []
-told (m ∷ ms) = answerNumber (m .answer) ∷ (area m ++ told ms)
+told (m ∷ ms) = answer_number m.answer ∷ (area m ++ told ms)
 
 abbrev sent : List Sent
 sent =
@@ -62,7 +59,7 @@ sent =
 abbrev expected : List ℕ
 expected = {expected}
 
-same : sameBytes (told (moments freshStm sent)) expected ≡ true
+same : same_bytes (told (moments fresh_stm sent)) expected ≡ true
 unfolding computing
 same = refl
 """
@@ -100,14 +97,14 @@ def main():
         lines = subprocess.run([plain], input=b"".join(commands), check=True, capture_output=True).stdout.decode().splitlines()
 
         copy = os.path.join(work, "copy")
-        shutil.copytree(ROOT, copy, ignore=shutil.ignore_patterns(".git"))
+        shutil.copytree(ROOT, copy, ignore=shutil.ignore_patterns(".git", "out"))
         proofs = os.path.join(copy, "crates", "cases", "proofs")
         with open(os.path.join(proofs, "Stream.antt"), "w") as out:
             sent = "\n".join(f"    send ({listed(c)}) ∷" for c in commands)
             out.write(PROOF.format(untouched=UNTOUCHED, sent=sent, expected=listed(expected_of(lines))))
         with open(os.path.join(proofs, "Lib.antt"), "a") as out:
             out.write("pub mod Stream\n")
-        run = subprocess.run(["rt", "dev", "cases"], cwd=copy, capture_output=True, text=True)
+        run = subprocess.run(["rt", "check"], cwd=os.path.join(copy, "crates", "cases"), capture_output=True, text=True)
     said = run.stdout + run.stderr
     if run.returncode == 0:
         print(f"seed {seed}: {len(commands)} commands, no difference")
