@@ -22,7 +22,7 @@ RULES = ['Numbers', 'Operands', 'Places', 'Speeds', 'Hold', 'Table', 'Checks', '
 HELD = {'rules': 'cases'}  # the crate above, whose check proves this one too
 SWAPS = {'ltb': ['leb'], 'leb': ['ltb'], 'lt': ['le'], 'le': ['lt'], '&&': ['||'], '||': ['&&'], 'true': ['false'], 'false': ['true'],
          'min': ['Prim.Native.Nat.max'], 'not': ['']}
-TOKEN = re.compile(r'0x[0-9A-F]+\b|\b\d+\b|\b(?:ltb|leb|lt|le|true|false|min|not)\b|&&|\|\||\b(?:[A-Z]\w*\.)?[A-Z]\w*\b| \.[a-z]\w*\b')
+TOKEN = re.compile(r'0x[0-9A-F]+\b|\b\d+\b|\b(?:ltb|leb|lt|le|true|false|min|not)\b|&&|\|\||\b(?:[A-Z]\w*\.)?[A-Z]\w*\b|(?<=[\w)])\.[a-z]\w*\b')
 
 
 def fields_and_variants():
@@ -43,7 +43,7 @@ def fields_and_variants():
 def wrong(text, fields, variants):
     """(line number, line, changed line) for each change of a definition's body."""
     inside = False
-    imported = [names.split(', ') for names in re.findall(r'the-variants\.\{(.*)\}', text)]
+    imported = [names.split(', ') for names in re.findall(r'TheVariants\.\{(.*)\}', text)]
     for at, line in enumerate(text.split('\n')):
         start = re.match(r'(?:abbrev |unfoldable )?(?:pub )?(\w\S*) :', line)
         if start:
@@ -62,8 +62,8 @@ def wrong(text, fields, variants):
                 others = [hex(int(old, 16) + 1)]
             elif old.isdigit():
                 others = [str(int(old) + 1)] + ([str(int(old) - 1)] if int(old) else [])
-            elif old.startswith(' .'):
-                others = [' .' + name for name in sorted(fields.get(old[2:], ()))]
+            elif old.startswith('.'):
+                others = ['.' + name for name in sorted(fields.get(old[1:], ()))]
             elif '.' in old:
                 enum, variant = old.split('.')
                 others = [f'{enum}.{name}' for name in variants.get(enum, ()) if name != variant]
@@ -90,7 +90,7 @@ def main():
     counts = {'taken': 0, 'refused': 0, 'no type': 0}
     with tempfile.TemporaryDirectory() as work:
         copy = os.path.join(work, 'copy')
-        shutil.copytree('.', copy, symlinks=True, ignore=shutil.ignore_patterns('.git'))
+        shutil.copytree('.', copy, symlinks=True, ignore=shutil.ignore_patterns('.git', 'out'))
         for crate, name, at, line, new in sorted(found[:args.most]):
             path = os.path.join(copy, f'crates/{crate}/specs/{name}.antt')
             with open(path) as f:
@@ -99,10 +99,10 @@ def main():
             lines[at] = new
             with open(path, 'w') as f:
                 f.write('\n'.join(lines))
-            run = subprocess.run(['rt', 'dev', HELD.get(crate, crate)], cwd=copy, capture_output=True, text=True)
+            run = subprocess.run(['rt', 'check'], cwd=os.path.join(copy, 'crates', HELD.get(crate, crate)), capture_output=True, text=True)
             with open(path, 'w') as f:
                 f.write(text)
-            errors = re.findall(r'crates/\w+/(\S+?\.antt:\d+)\S*: error: `?([\w-]*)', run.stdout + run.stderr)
+            errors = re.findall(r'^\./(\S+?\.antt:\d+)\S*: error: `?([\w-]*)', run.stdout + run.stderr, re.M)
             word = 'taken' if run.returncode == 0 else 'no type' if any(e[0].startswith('specs/') for e in errors) else 'refused'
             counts[word] += 1
             if word != 'no type':
