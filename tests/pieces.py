@@ -5,8 +5,8 @@
 
 Four ways: a byte at a time; in pieces of random lengths; a command at a time, the next only when the last one's line has come (not
 for the sheet, where not every command has a line); and all at once to a reader that lags, so that a write fails. The pipes hand over each piece as it was sent (O_DIRECT), so that each is a
-read of its own. In the last way what is out must be a beginning of what is expected, and the exit status 1 if it is not all; in the others
-it must be all, and the exit status 0.
+read of its own. In the last way what is out must be a beginning of what is expected, and the exit status 1 where it is not all; in the
+others it must be all, and the status 0.
 """
 
 import fcntl
@@ -33,7 +33,7 @@ class Fed:
         self.out, outer = os.pipe()
         if not blocking:
             fcntl.fcntl(outer, fcntl.F_SETFL, os.O_NONBLOCK)
-        self.process = subprocess.Popen([program], stdin=inner, stdout=outer, stderr=subprocess.PIPE)
+        self.process = subprocess.Popen([program], stdin=inner, stdout=outer, stderr=None if blocking else subprocess.DEVNULL)
         os.close(inner)
         os.close(outer)
         self.text = b""
@@ -53,15 +53,15 @@ class Fed:
         self.text += part
         return part
 
-    def finish(self, expected=None):
-        """What it wrote, to its end. Where not all that is expected came, a write failed, and the exit status tells."""
+    def end(self):
+        """The exit status, once all is read."""
         while self.read():
             pass
         os.close(self.out)
-        status = 0 if expected in (None, self.text) else 1
-        assert self.process.wait(WAIT) == status, f"the exit status is not {status}"
-        with self.process.stderr as told:
-            assert bool(told.read()) == bool(status), "an error is told where there is none, or none where there is one"
+        return self.process.wait(WAIT)
+
+    def finish(self):
+        assert self.end() == 0, "the exit status is not 0"
         return self.text
 
 
@@ -112,7 +112,7 @@ def by_commands(program, stream):
     return fed.finish()
 
 
-def to_a_reader_that_lags(program, stream, expected):
+def to_a_reader_that_lags(program, stream):
     """A pipe that does not wait: once it is full a write fails, though there is room again later."""
     fed = Fed(program, blocking=False)
     half = len(stream) // 2
@@ -124,7 +124,7 @@ def to_a_reader_that_lags(program, stream, expected):
         while select.select([fed.out], [], [], 0)[0] and fed.read():
             pass
     os.close(fed.feed)
-    return fed.finish(expected)
+    return fed.end(), fed.text
 
 
 def main():
@@ -139,8 +139,9 @@ def main():
     assert in_pieces(program, cut(stream, lengths)) == expected, "in pieces the output differs"
     if what != ["sheet"]:
         assert by_commands(program, stream) == expected, "command by command the output differs"
-    text = to_a_reader_that_lags(program, stream, expected)
+    status, text = to_a_reader_that_lags(program, stream)
     assert expected.startswith(text), "to a reader that lags the output is no beginning of what it should be"
+    assert status == (0 if text == expected else 1), "to a reader that lags the exit status does not tell whether all is out"
 
 
 main()

@@ -42,3 +42,73 @@ pub fn write_all<W: Write>(output: &mut W, bytes: &[u8]) -> io::Result<()>
     }
     Ok(())
 }
+
+#[cfg(test)]
+mod tests {
+    use super::*;
+    use std::test::Fail;
+
+    // Gives or takes a byte a call, and fails at the fourth.
+    #[derive(Drop)]
+    struct Drip(u8);
+
+    impl Drip {
+        fn next(&mut self) -> io::Result<u8> {
+            if self.0 >= 3 {
+                return Err(io::Error::from(ErrorKind::BrokenPipe));
+            }
+            self.0 += 1;
+            Ok(self.0)
+        }
+    }
+
+    impl Read for Drip {
+        fn read(&mut self, buf: &mut [u8]) -> io::Result<usize> {
+            match buf {
+                [] => Ok(0),
+                [first, ..] => {
+                    *first = self.next()?;
+                    Ok(1)
+                }
+            }
+        }
+    }
+
+    impl Write for Drip {
+        fn write(&mut self, buf: &[u8]) -> io::Result<usize> {
+            if buf.is_empty() {
+                return Ok(0);
+            }
+            self.next()?;
+            Ok(1)
+        }
+
+        fn flush(&mut self) -> io::Result<()> {
+            Ok(())
+        }
+    }
+
+    #[test]
+    fn reads_in_pieces(rt: HostRuntime) -> Result<(), Fail> {
+        let mut three = [0u8; 3];
+        assert_eq!(rt; read_full(&mut Drip(0), &mut three)?, 3);
+        assert_eq!(rt; three, [1, 2, 3]);
+        let mut four = [0u8; 4];
+        assert!(rt;
+            read_full(&mut Drip(0), &mut four).is_err(),
+            "the fourth read fails"
+        );
+        let mut two: &[u8] = b"ab";
+        assert_eq!(rt; read_full(&mut two, &mut four)?, 2, "the input ends");
+        Ok(())
+    }
+
+    #[test]
+    fn writes_in_pieces(rt: HostRuntime) {
+        assert!(rt; write_all(&mut Drip(0), b"abc").is_ok());
+        assert!(rt;
+            write_all(&mut Drip(0), b"abcd").is_err(),
+            "the fourth write fails"
+        );
+    }
+}
