@@ -1,7 +1,7 @@
 -- A loop that reads, hands on and writes, for any writer of texts, between a reader and a writer whose bytes are known: what it has
 -- written is the text of what has come. Assumes nothing.
-use Rattle.std.specs.Prelude.{ℕ, ◌+◌, Bool, true, false, Option, None, Some, IfSome, List, [], ◌∷◌, ◌++◌, length, take, drop}
-use Rattle.std.proofs.Common.{◌≡◌, refl, sym, ap, ◌∙◌, subst, arith, append_assoc, append-nil, take-append-drop}
+use Rattle.std.specs.Prelude.{ℕ, ◌+◌, ◌<◌, ◌≤◌, Bool, true, false, Option, None, Some, IfSome, List, [], ◌∷◌, ◌++◌, length, take, drop}
+use Rattle.std.proofs.Common.{◌≡◌, refl, sym, ap, ◌∙◌, subst, arith, append_assoc, append-nil, take-append-drop, length-append}
 use Rattle.std.specs.Io.KnownBytes.{Appends, Consumes, IsAtEnd}
 use Rattle.std.proofs.KnownBytes.{Appends-nil, Appends-trans, Consumes-nil, Consumes-trans}
 use mathlib.Core.List.{flatten}
@@ -57,19 +57,22 @@ module _ {X : Type 0} (w : Writer X) (x : X) where
   -- a turn with the bytes of a read, after which the stream goes on
   pub follows : {r r' r'' o o' o'' : Option (List ℕ)} {state : X} {left : List ℕ} (s : Stands w x r r' o o' state left) (bs : List ℕ)
       → Consumes r' r'' bs → Appends o' o'' (text_by w state (given_of false (left ++ bs)).portions) → (given_of false (left ++ bs)).ended ≡ false
-      → Stands w x r r'' o o'' (state_by w state (given_of false (left ++ bs)).portions) (left_of false (left ++ bs))
+      → (n : Stands w x r r'' o o'' (state_by w state (given_of false (left ++ bs)).portions) (left_of false (left ++ bs)))
+      × (length n.came ≡ length s.came + length bs)
   follows {r = r} {r'' = r''} {o = o} {o'' = o''} {state = state} {left = left} s bs read written goes_on =
       let joined = given_joined (length s.came + 1) false s.came bs (omega arith) s.goes_on in
       let ps = (given_of false s.came).portions in
-      let qs = (given_of false (left_of false s.came ++ bs)).portions in
-      record {
-        came = s.came ++ bs;
-        goes_on = ap (λ g. g.ended) joined ∙ (rw s.left_is at goes_on);
-        state_is = rw (s.state_is, s.left_is, joined) (sym (state_joined w x ps qs));
-        left_is = rw s.left_is (sym (left_joined false s.came bs s.goes_on));
-        read = Consumes-trans _ _ _ _ _ s.read read;
-        written = subst (Appends o o'') (sym (turned false s.came bs state left s.goes_on s.state_is s.left_is)) (Appends-trans _ _ _ _ _ s.written written);
-      }
+      let qs = (given_of false (left_of false s.came ++ bs)).portions in (
+        record {
+          came = s.came ++ bs;
+          goes_on = ap (λ g. g.ended) joined ∙ (rw s.left_is at goes_on);
+          state_is = rw (s.state_is, s.left_is, joined) (sym (state_joined w x ps qs));
+          left_is = rw s.left_is (sym (left_joined false s.came bs s.goes_on));
+          read = Consumes-trans _ _ _ _ _ s.read read;
+          written = subst (Appends o o'') (sym (turned false s.came bs state left s.goes_on s.state_is s.left_is)) (Appends-trans _ _ _ _ _ s.written written);
+        },
+        length-append s.came bs,
+      )
 
   -- where no bytes come after those of a read, the turn with them writes the rest of the text
   last_turn : {r r' o o' : Option (List ℕ)} {state : X} {left : List ℕ} (s : Stands w x r r' o o' state left) (bs rest : List ℕ) → rest ≡ []
@@ -110,7 +113,18 @@ source_is (Some xs) (Some ys) came P read holds = subst P (sym read) (holds ys (
 front_of : (o o' : Option (List ℕ)) (p q whole : List ℕ) → Appends o o' p → whole ≡ p ++ q → AppendsFront o o' whole
 front_of o o' p q whole written e = (length p, subst (Appends o o') (sym (ap (take (length p)) e ∙ take-append_seam p q)) written)
 
+-- what holds of a source's bytes holds of them where they are few
+pub where_few : (r : Option (List ℕ)) (P : List ℕ → Type 0) (n : ℕ) → IfSome r P → IfSome r (λ input. length input < n → P input)
+where_few None P n holds = tt
+where_few (Some xs) P n holds = λ _. holds
+
 module _ {X : Type 0} (w : Writer X) (x : X) where
+  -- where n bytes came, the source had no fewer
+  pub not_few : {r r' o o' : Option (List ℕ)} {state : X} {left : List ℕ} (s : Stands w x r r' o o' state left) (n : ℕ) (P : List ℕ → Type 0)
+      → n ≤ length s.came → IfSome r (λ input. length input < n → P input)
+  not_few {r = r} {r' = r'} s n P many =
+      source_is r r' s.came _ s.read (λ rest _ few. absurd (omega (arith, length-append s.came rest, many, few)))
+
   -- what was written before a read is a beginning of the whole input's text
   pub begun : {r r' o o' : Option (List ℕ)} {state : X} {left : List ℕ} → Stands w x r r' o o' state left
       → IfSome r (λ input. AppendsFront o o' (text_by w x (portions_of input)))

@@ -1,8 +1,9 @@
 -- A turn of such a loop: a read behind the bytes that are left, what is handed on of the bytes at hand, and the write of its text. Assumes
 -- nothing.
 use Rattle.std.specs.Prelude.{ℕ, ◌≤◌, ◌<◌, Bool, true, false, eqb, Option, IfSome, List, ◌++◌, length, take, drop}
-use Rattle.std.proofs.Common.{◌≡◌, sym, ap, ◌∙◌, le_refl, take-append-drop, take_all}
-use Rattle.std.proofs.Math.Seq.{slice}
+use Rattle.std.proofs.Common.{◌≡◌, refl, sym, ap, ◌∙◌, arith, le_refl, take-append-drop, take_all}
+use Rattle.std.proofs.Math.Seq.{slice, length-slice}
+use borrow.Author.Tests.{eqb-false}
 use Rattle.std.proofs.lemmas.Bool.{eqb-true}
 use Rattle.std.specs.Io.KnownBytes.{Appends, Consumes, IsAtEnd}
 use mathlib.Core.Bool.{false≢true}
@@ -19,6 +20,7 @@ use Rattle.stdio.proofs.Standing.{Stands, follows, begun_more, whole}
 -- what a read did to a buffer, in which bytes were left at the front
 pub record ReadBehind (source source' : Option (List ℕ)) (left to : ℕ) (before after : List ℕ) : Type 0 where
   pub within : left ≤ to
+  pub room : to ≤ length after
   pub kept : take left after ≡ take left before
   pub came : Consumes source source' (slice left to after)
   pub end : to ≡ left → IsAtEnd source'
@@ -65,15 +67,20 @@ module _ {X : Type 0} (w : Writer X) (x : X) where
   turn_begun {left = left} s to after r'' o'' h written =
       begun_more w x s (eqb to left) (slice left to after) r'' o'' h.came (λ e. h.end (eqb-true to left e)) (rw (at_hand h) at written)
 
-  pub turn_on : {r r' o o' : Option (List ℕ)} {state : X} {left : ℕ} {before : List ℕ} → Stands w x r r' o o' state (take left before)
+  pub turn_on : {r r' o o' : Option (List ℕ)} {state : X} {left : ℕ} {before : List ℕ} (s : Stands w x r r' o o' state (take left before))
       → (to : ℕ) (after : List ℕ) (r'' o'' : Option (List ℕ)) → ReadBehind r' r'' left to before after
       → Appends o' o'' (text_by w state (given_of (eqb to left) (take to after)).portions) → (given_of (eqb to left) (take to after)).ended ≡ false
-      → Stands w x r r'' o o'' (state_by w state (given_of (eqb to left) (take to after)).portions) (left_of (eqb to left) (take to after))
-      × (length (left_of (eqb to left) (take to after)) < longest)
+      → (n : Stands w x r r'' o o'' (state_by w state (given_of (eqb to left) (take to after)).portions) (left_of (eqb to left) (take to after)))
+      × ((length (left_of (eqb to left) (take to after)) < longest) × (length s.came < length n.came))
   turn_on {r = r} {o = o} {o' = o'} {state = state} {left = left} s to after r'' o'' h written goes_on =
-      (by (eqb to left) written goes_on, leaves_short (eqb to left) (take to after) goes_on)
+      let next = by (eqb to left) refl written goes_on in (next.0, (leaves_short (eqb to left) (take to after) goes_on, next.1))
     where
-      by : (all : Bool) → Appends o' o'' (text_by w state (given_of all (take to after)).portions) → (given_of all (take to after)).ended ≡ false
-          → Stands w x r r'' o o'' (state_by w state (given_of all (take to after)).portions) (left_of all (take to after))
-      by true out on = absurd (false≢true (sym on ∙ all_ended (take to after)))
-      by false out on = rw (at_hand h) (follows w x s (slice left to after) h.came (rw (at_hand h) at out) (rw (at_hand h) at on))
+      by : (all : Bool) → eqb to left ≡ all → Appends o' o'' (text_by w state (given_of all (take to after)).portions) → (given_of all (take to after)).ended ≡ false
+          → (n : Stands w x r r'' o o'' (state_by w state (given_of all (take to after)).portions) (left_of all (take to after)))
+          × (length s.came < length n.came)
+      by true e out on = absurd (false≢true (sym on ∙ all_ended (take to after)))
+      by false e out on =
+          let other : to ≡ left → ⊥ = eqb-false to left e in
+          let some : 0 < length (slice left to after) = omega (arith, length-slice left to after h.room, h.within, other) in
+          let next = follows w x s (slice left to after) h.came (rw (at_hand h) at out) (rw (at_hand h) at on) in
+          rw (at_hand h) (next.0, omega (arith, next.1, some))
