@@ -21,7 +21,7 @@ RULES = ['Numbers', 'Operands', 'Places', 'Speeds', 'Hold', 'Table', 'Checks', '
          'colours/Numbers', 'colours/Rows', 'areas/Numbers', 'areas/Rows', 'areas/Stays', 'records/Numbers', 'records/Rows', 'records/Lives', 'Reports', 'Commands', 'Refusals', 'Calls']
 HELD = {'rules': 'cases'}  # the crate above, whose check proves this one too
 SWAPS = {'ltb': ['leb'], 'leb': ['ltb'], 'lt': ['le'], 'le': ['lt'], '&&': ['||'], '||': ['&&'], 'true': ['false'], 'false': ['true'],
-         'min': ['Prim.Native.Nat.max'], 'not': ['']}
+         'min': ['Prim.Native.Nat.max'], 'not': [''], 'None': ['(Some 0)', '(Some true)']}
 TOKEN = re.compile(r'0x[0-9A-F]+\b|\b\d+\b|\b(?:ltb|leb|lt|le|true|false|min|not)\b|&&|\|\||\b(?:[A-Z]\w*\.)?[A-Z]\w*\b|(?<=[\w)])\.[a-z]\w*\b')
 
 
@@ -36,7 +36,7 @@ def fields_and_variants():
             for name, kind in of:
                 fields.setdefault(name, set()).update(other for other, same in of if same == kind and other != name)
         for name, body in re.findall(r'pub enum (\w+) \{(.*?)\n\}', text, re.S):
-            variants[name] = re.findall(r'\b([A-Z]\w*)\b(?:\([^)]*\))?,', body)
+            variants[name] = re.findall(r'\b([A-Z]\w*)\b(?:\([^)]*\)| = \w+)?,', body)
     return fields, variants
 
 

@@ -11,13 +11,9 @@ const RECORD: usize = 34;
 
 const AREA: usize = 32;
 
-fn put(out: &mut impl Write, text: &[u8]) -> io::Result<()> {
-    out.write_all(text)
-}
-
 fn put_bytes(out: &mut impl Write, bytes: &[u8]) -> io::Result<()> {
     for byte in bytes {
-        put(out, &[wire::digit(*byte / 16), wire::digit(*byte)])?;
+        write!(out, "{byte:02X}")?;
     }
     Ok(())
 }
@@ -51,9 +47,9 @@ fn put_outcome(
     let answer = outcome.answer;
     write!(out, "answer {} area ", unit::answer_number(answer))?;
     put_bytes(out, portions::part(area, 0, n))?;
-    put(out, b" operands ")?;
+    write!(out, " operands ")?;
     put_bytes(out, unit::operands(command_of(record), n))?;
-    put(out, b"\n")
+    writeln!(out)
 }
 
 // A proved loop ends, and nothing says that the input does: so the turns are counted.
@@ -62,10 +58,9 @@ fn main(rt: HostRuntime) -> io::Result<()> {
     let mut out = rt.stdout();
     let mut stm = unit::fresh();
     for _ in 0..u32::MAX {
-        let mut record = [0u8; RECORD];
-        if console::read_full(&mut input, &mut record)? < RECORD {
+        let Some(record) = console::read_record::<RECORD, _>(&mut input)? else {
             break;
-        }
+        };
         let mut area = [0xAAu8; AREA];
         let outcome = hand_record(stm, &record, &mut area);
         put_outcome(&mut out, &record, outcome, &area)?;

@@ -8,14 +8,13 @@ use mathlib.Core.List.{List, [], ◌∷◌}
 use native.Mathlib.Decide.{dec_le}
 use lib.Dec.{eqb}
 use borrow.Author.Tests.{ne_eqb, le-leb, lt-leb}
+use Rattle.std.specs.Prelude.{Option, Some, None}
 use Rattle.areas.specs.Numbers.{area_number, event_number, event_of}
 use Rattle.areas.specs.Rows.{target_of}
-use Rattle.areas.specs.Stays.{begun_stay, with_overlap, line_by, missed, passed_stay, deletes_sections, covered_by, covered_stay, line_speed, area_speed}
+use Rattle.areas.specs.Stays.{begun_stay, with_missing, line_by, missed, passed_stay, deletes_sections, covered_by, covered_stay, line_speed, area_speed}
 use Rattle.areas.specs.Claims.{NumbersAreTold, EventIsFollowed, OnlyInPartialArea, EnteringGmdDeletes, covered_all, sum, GroupWaits, SecondGroupMovesNothing, GroundAloneIsNothing, CSKeepsArea, StartsInFull}
 use Rattle.areas.specs.declared.Area.{Area}
 use Rattle.areas.specs.declared.Event.{Event}
-use Rattle.areas.specs.declared.LineSpeed.{LineSpeed}
-use Rattle.areas.specs.declared.Overlap.{Overlap}
 use Rattle.areas.specs.declared.Stay.{Stay}
 use Rattle.areas.proofs.Table.{each, target_number}
 use Rattle.areas.proofs.Told.{taken_by_lem, target_by, event_gmd}
@@ -34,7 +33,7 @@ pub followed : (event : Event) (speed : ℕ) (stay : Stay) → (event_number eve
 unfolding passed_stay
 followed event speed stay n = rw (ne_eqb (event_number event) 3 n)
 
-line_speed_by : (gmd : Bool) (speed : ℕ) → line_speed (cond gmd (LineSpeed.Board speed) LineSpeed.Dark) ≡ cond gmd speed 130
+line_speed_by : (gmd : Bool) (speed : ℕ) → line_speed (cond gmd (Some speed) None) ≡ cond gmd speed 130
 line_speed_by true speed = refl
 line_speed_by false speed = refl
 
@@ -49,7 +48,7 @@ event_is_followed event speed train stay t n =
     let at = target_number stay.area event t in
     let is = followed event speed stay n in (
       ap (λ s. area_number s.area) is ∙ at,
-      ap (λ s. s.overlap) is,
+      ap (λ s. s.missing) is,
       ap (area_speed train) is ∙ speed_by event speed train (target_of stay.area event)
           ∙ ap (λ a. cond (eqb a 4) (cond (eqb (event_number event) 1) speed 130) train) at,
     )
@@ -70,12 +69,12 @@ deletes_told byte stay =
 -- ---- 50 m
 
 -- while the 50 m pend, with this ground before
-module _ (line : LineSpeed) where
+module _ (line : Option ℕ) where
   abbrev pub pends : ℕ → Stay
-  pends covered = record { area = Area.Full; line = line; overlap = Overlap.Missing covered }
+  pends covered = record { area = Area.Full; line = line; missing = Some covered }
 
   abbrev entered : Stay
-  entered = begun_stay Area.Partial LineSpeed.Dark
+  entered = begun_stay Area.Partial None
 
   pub covered_below : (covered moved : ℕ) → covered + moved < 5000 → covered_stay moved (pends covered) ≡ pends (covered + moved)
   unfolding covered_stay
@@ -84,9 +83,9 @@ module _ (line : LineSpeed) where
   pub covered_past : (covered moved : ℕ) → 5000 ≤ covered + moved → covered_stay moved (pends covered) ≡ entered
   unfolding covered_stay
   covered_past covered moved h =
-      rw (le-leb 5000 (covered + moved) h) (ap (λ to. begun_stay to LineSpeed.Dark) (target_by Area.Full Event.NoOverlap true (taken_by_lem Area.Full Event.NoOverlap)))
+      rw (le-leb 5000 (covered + moved) h) (ap (λ to. begun_stay to None) (target_by Area.Full Event.NoOverlap true (taken_by_lem Area.Full Event.NoOverlap)))
 
-ground_alone : (covered : List ℕ) (stay : Stay) → stay.overlap ≡ Overlap.Present → covered_all covered stay ≡ stay
+ground_alone : (covered : List ℕ) (stay : Stay) → stay.missing ≡ None → covered_all covered stay ≡ stay
 unfolding covered_all covered_stay
 ground_alone [] stay p = refl
 ground_alone (moved ∷ rest) stay p =
@@ -96,7 +95,7 @@ ground_alone (moved ∷ rest) stay p =
 pub ground_alone_is_nothing : GroundAloneIsNothing
 ground_alone_is_nothing = ground_alone
 
-all_below : (line : LineSpeed) (covered : List ℕ) (before : ℕ) → before + sum covered < 5000
+all_below : (line : Option ℕ) (covered : List ℕ) (before : ℕ) → before + sum covered < 5000
     → covered_all covered (pends line before) ≡ pends line (before + sum covered)
 unfolding covered_all
 all_below line [] before h = ap (pends line) (sym (add-zero before))
@@ -106,7 +105,7 @@ all_below line (moved ∷ rest) before h =
     ap (covered_all rest) (covered_below line before moved first) ∙ all_below line rest (before + moved) (omega (arith, h, whole))
     ∙ ap (pends line) whole
 
-all_past : (line : LineSpeed) (covered : List ℕ) (before : ℕ) → before < 5000 → 5000 ≤ before + sum covered
+all_past : (line : Option ℕ) (covered : List ℕ) (before : ℕ) → before < 5000 → 5000 ≤ before + sum covered
     → covered_all covered (pends line before) ≡ entered line
 unfolding covered_all
 all_past line [] before b h = absurd (omega (arith, b, h))
@@ -118,12 +117,12 @@ all_past line (moved ∷ rest) before b h =
           ap (covered_all rest) (covered_below line before moved first) ∙ all_past line rest (before + moved) first (omega (arith, h))
     ]
 
-grouped : (speed : ℕ) (stay : Stay) → stay.area ≡ Area.Full → stay.overlap ≡ Overlap.Present
+grouped : (speed : ℕ) (stay : Stay) → stay.area ≡ Area.Full → stay.missing ≡ None
     → passed_stay Event.NoOverlap speed stay ≡ pends stay.line 0
 unfolding passed_stay
 grouped speed stay a p =
-    ap (λ overlap. with_overlap stay (missed overlap)) p
-    ∙ ap (λ area. record { area = area; line = stay.line; overlap = Overlap.Missing 0 }) a
+    ap (λ missing. with_missing stay (missed missing)) p
+    ∙ ap (λ area. record { area = area; line = stay.line; missing = Some 0 }) a
 
 pub group_waits : GroupWaits
 group_waits speed stay covered a p =
@@ -135,7 +134,7 @@ group_waits speed stay covered a p =
 pub second_group_moves_nothing : SecondGroupMovesNothing
 unfolding passed_stay
 second_group_moves_nothing speed covered stay p =
-    ap (λ overlap. with_overlap stay (missed overlap)) p ∙ ap (with_overlap stay) (sym p)
+    ap (λ missing. with_missing stay (missed missing)) p ∙ ap (with_missing stay) (sym p)
 
 -- ---- CS and start
 

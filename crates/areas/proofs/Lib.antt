@@ -1,3 +1,4 @@
+pub mod Equality
 pub mod Table
 pub mod Told
 pub mod Claims

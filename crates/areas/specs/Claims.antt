@@ -1,13 +1,11 @@
 -- What is promised of areas and stays (02, F-6), in the paper's numbers and over any ground. Proved in proofs/.
-use Rattle.std.specs.Prelude.{◌≡◌, ℕ, ◌+◌, ◌≤◌, ◌<◌, Bool, true, cond, not, ◌&&◌, ◌||◌, eqb}
+use Rattle.std.specs.Prelude.{◌≡◌, ℕ, ◌+◌, ◌≤◌, ◌<◌, Bool, true, cond, not, ◌&&◌, ◌||◌, eqb, Some, None}
 use mathlib.Core.List.{List, [], ◌∷◌, map, foldr}
 use Rattle.areas.specs.Numbers.{area_number, event_number, event_of}
 use Rattle.areas.specs.Rows.{is_taken, target_of}
 use Rattle.areas.specs.Stays.{fresh_stay, cleared_stay, passed_stay, deletes_sections, covered_stay, area_speed}
 use Rattle.areas.specs.declared.Area.{Area}
 use Rattle.areas.specs.declared.Event.{Event}
-use Rattle.areas.specs.declared.LineSpeed.{LineSpeed}
-use Rattle.areas.specs.declared.Overlap.{Overlap}
 use Rattle.areas.specs.declared.Stay.{Stay}
 
 -- ---- numbers
@@ -51,7 +49,7 @@ EventIsFollowed =
     (event : Event) (speed train : ℕ) (stay : Stay)
     → is_taken stay.area event ≡ true → (event_number event ≡ 3 → ⊥)
     → (area_number (passed_stay event speed stay).area ≡ enters (event_number event))
-    × ((passed_stay event speed stay).overlap ≡ Overlap.Present)
+    × ((passed_stay event speed stay).missing ≡ None)
     × (area_speed train (passed_stay event speed stay)
     ≡ cond (eqb (enters (event_number event)) 4) (cond (eqb (event_number event) 1) speed 130) train)
 
@@ -80,22 +78,22 @@ sum xs = foldr ◌+◌ 0 xs
 abbrev pub GroupWaits : Type 0
 GroupWaits =
     (speed : ℕ) (stay : Stay) (covered : List ℕ)
-    → stay.area ≡ Area.Full → stay.overlap ≡ Overlap.Present
+    → stay.area ≡ Area.Full → stay.missing ≡ None
     → (sum covered < 5000
     → covered_all covered (passed_stay Event.NoOverlap speed stay)
-    ≡ record { area = Area.Full; line = stay.line; overlap = Overlap.Missing (sum covered) })
+    ≡ record { area = Area.Full; line = stay.line; missing = Some (sum covered) })
     × (5000 ≤ sum covered
     → covered_all covered (passed_stay Event.NoOverlap speed stay)
-    ≡ record { area = Area.Partial; line = LineSpeed.Dark; overlap = Overlap.Present })
+    ≡ record { area = Area.Partial; line = None; missing = None })
 
 -- a second one meanwhile moves nothing, so that the ground is that since the first,
 abbrev pub SecondGroupMovesNothing : Type 0
 SecondGroupMovesNothing =
-    (speed covered : ℕ) (stay : Stay) → stay.overlap ≡ Overlap.Missing covered → passed_stay Event.NoOverlap speed stay ≡ stay
+    (speed covered : ℕ) (stay : Stay) → stay.missing ≡ Some covered → passed_stay Event.NoOverlap speed stay ≡ stay
 
 -- and where none pends no ground changes anything
 abbrev pub GroundAloneIsNothing : Type 0
-GroundAloneIsNothing = (covered : List ℕ) (stay : Stay) → stay.overlap ≡ Overlap.Present → covered_all covered stay ≡ stay
+GroundAloneIsNothing = (covered : List ℕ) (stay : Stay) → stay.missing ≡ None → covered_all covered stay ≡ stay
 
 -- ---- CS and start
 
@@ -105,8 +103,8 @@ CSKeepsArea =
     (stay : Stay) (train : ℕ)
     → (area_number (cleared_stay stay).area ≡ area_number stay.area)
     × (area_speed train (cleared_stay stay) ≡ area_speed train stay)
-    × ((cleared_stay stay).overlap ≡ Overlap.Present)
+    × ((cleared_stay stay).missing ≡ None)
 
 -- "Fully equipped is the area after start", and nothing pends
 abbrev pub StartsInFull : Type 0
-StartsInFull = (area_number fresh_stay.area ≡ 8) × (fresh_stay.overlap ≡ Overlap.Present)
+StartsInFull = (area_number fresh_stay.area ≡ 8) × (fresh_stay.missing ≡ None)

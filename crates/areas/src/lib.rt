@@ -8,14 +8,14 @@ mod numbers;
 mod rows;
 mod stays;
 
-pub use numbers::{area_number, event_of, is_event};
+pub use numbers::event_of;
 pub use rows::is_taken;
 pub use stays::{
     area_speed, cleared_stay, covered_stay, deletes_sections, fresh_stay, passed_stay,
 };
 
 // The areas.
-#[derive(Clone, Copy)]
+#[derive(Clone, Copy, PartialEq, Eq)]
 pub enum Area {
     NonEquipped,
     Partial,
@@ -26,7 +26,7 @@ pub enum Area {
 // The events of command 50, in the order of their numbers: a main or distant signal without full HT
 // information, a GMD, a balise error that deletes HT information, a group without overlap; entry to
 // non-equipped, HT and fully equipped.
-#[derive(Clone, Copy)]
+#[derive(Clone, Copy, PartialEq, Eq)]
 pub enum Event {
     Signal,
     GMD,
@@ -37,26 +37,14 @@ pub enum Event {
     ToFull,
 }
 
-// What VMAX takes in the partial area: the speed V_DARK of 001 while no GMD was passed in this stay, or
-// that of the last GMD board, in km/h.
-#[derive(Clone, Copy)]
-pub enum LineSpeed {
-    Dark,
-    Board(u16),
-}
-
-// Whether the required overlapping information is there, or a group was without it: then with the ground
-// since the first such group, in cm.
-#[derive(Clone, Copy)]
-pub enum Overlap {
-    Present,
-    Missing(u16),
-}
-
 // The stay in an area: a change of area begins another.
 #[derive(Clone, Copy)]
 pub struct Stay {
     pub area: Area,
-    pub line: LineSpeed,
-    pub overlap: Overlap,
+    // The speed of the last GMD board of this stay, in km/h. None: no GMD was passed in it, and VMAX takes
+    // the speed V_DARK of 001 in the partial area.
+    pub line: Option<u16>,
+    // The ground since the first group without the required overlapping information, in cm. None: no group
+    // was without it.
+    pub missing: Option<u16>,
 }

@@ -1,41 +1,24 @@
 // 02's numbers of areas and events.
 ghost use Rattle.std.specs.Prelude.{◌≡◌};
-ghost use Rattle.areas.specs.Numbers.{area_number, is_area, event_number, event_of, is_event};
+ghost use Rattle.areas.specs.Numbers.{area_number, event_of};
 
 use crate::{Area, Event};
 
-pub fn area_number(area: Area) -> u8
-    ensures { result ≡ area_number area }
-{
-    match area {
-        Area::NonEquipped => 7,
-        Area::Partial => 4,
-        Area::HT => 9,
-        Area::Full => 8,
-    }
-}
+impl From<Area> for u8 {
+    ghost from_gives = { λ area number. number ≡ area_number area };
 
-pub(crate) fn is_area(wanted: Area, area: Area) -> bool
-    ensures { result ≡ is_area wanted area }
-{
-    area_number(area) == area_number(wanted)
-}
-
-fn event_number(event: Event) -> u8
-    ensures { result ≡ event_number event }
-{
-    match event {
-        Event::Signal => 0,
-        Event::GMD => 1,
-        Event::HTDeleted => 2,
-        Event::NoOverlap => 3,
-        Event::ToNonEquipped => 4,
-        Event::ToHT => 5,
-        Event::ToFull => 6,
+    fn from(area: Area) -> u8 {
+        match area {
+            Area::NonEquipped => 7,
+            Area::Partial => 4,
+            Area::HT => 9,
+            Area::Full => 8,
+        }
     }
 }
 
 // The event of a byte from 0 to 6.
+#[tactic(auto, unfolding(crate::specs::Numbers::event_of))]
 pub fn event_of(byte: u8) -> Event
     ensures { result ≡ event_of byte }
 {
@@ -48,10 +31,4 @@ pub fn event_of(byte: u8) -> Event
         5 => Event::ToHT,
         _ => Event::ToFull,
     }
-}
-
-pub fn is_event(wanted: Event, event: Event) -> bool
-    ensures { result ≡ is_event wanted event }
-{
-    event_number(event) == event_number(wanted)
 }

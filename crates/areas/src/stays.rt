@@ -1,19 +1,18 @@
 // The stay in an area, through events, ground and CS.
 ghost use Rattle.std.specs.Prelude.{◌≡◌};
-ghost use Rattle.areas.specs.Stays.{fresh_stay, begun_stay, with_overlap, cleared_stay, line_by, missed, passed_stay, deletes_sections, covered_stay, line_speed, area_speed};
+ghost use Rattle.areas.specs.Stays.{fresh_stay, begun_stay, cleared_stay, line_by, passed_stay, deletes_sections, covered_stay, area_speed};
 
-use crate::numbers::{is_area, is_event};
 use crate::rows::target_of;
-use crate::{Area, Event, LineSpeed, Overlap, Stay};
+use crate::{Area, Event, Stay};
 
 // A stay that begins, with this line speed.
-fn begun_stay(area: Area, line: LineSpeed) -> Stay
+fn begun_stay(area: Area, line: Option<u16>) -> Stay
     ensures { result ≡ begun_stay area line }
 {
     Stay {
         area,
         line,
-        overlap: Overlap::Present,
+        missing: None, // a change of area ends a pending 50 m
     }
 }
 
@@ -21,93 +20,59 @@ fn begun_stay(area: Area, line: LineSpeed) -> Stay
 pub fn fresh_stay() -> Stay
     ensures { result ≡ fresh_stay }
 {
-    begun_stay(Area::Full, LineSpeed::Dark)
-}
-
-fn with_overlap(stay: Stay, overlap: Overlap) -> Stay
-    ensures { result ≡ with_overlap stay overlap }
-{
-    let area = stay.area;
-    let line = stay.line;
-    Stay {
-        area,
-        line,
-        overlap,
-    }
+    begun_stay(Area::Full, None)
 }
 
 // CS ends a pending 50 m; the area and the speed of the stay are kept.
 pub fn cleared_stay(stay: Stay) -> Stay
     ensures { result ≡ cleared_stay stay }
 {
-    with_overlap(stay, Overlap::Present)
+    Stay {
+        missing: None,
+        ..stay
+    }
 }
 
 // The line speed that an event brings.
-fn line_by(event: Event, speed: u16) -> LineSpeed
+fn line_by(event: Event, speed: u16) -> Option<u16>
     ensures { result ≡ line_by event speed }
 {
-    if is_event(Event::GMD, event) {
-        LineSpeed::Board(speed)
-    } else {
-        LineSpeed::Dark
-    }
-}
-
-// After a group without overlap: the ground counts from the first such group.
-fn missed(overlap: Overlap) -> Overlap
-    ensures { result ≡ missed overlap }
-{
-    match overlap {
-        Overlap::Present => Overlap::Missing(0),
-        Overlap::Missing(covered) => Overlap::Missing(covered),
-    }
+    (event == Event::GMD).then_some(speed)
 }
 
 // The stay after an event, with the command's speed.
 pub fn passed_stay(event: Event, speed: u16, stay: Stay) -> Stay
     ensures { result ≡ passed_stay event speed stay }
 {
-    if is_event(Event::NoOverlap, event) {
-        let overlap = stay.overlap;
-        return with_overlap(stay, missed(overlap));
+    if event == Event::NoOverlap {
+        // the ground counts from the first such group
+        let missing = stay.missing.or(Some(0));
+        return Stay { missing, ..stay };
     }
-    let area = stay.area;
-    begun_stay(target_of(area, event), line_by(event, speed))
+    begun_stay(target_of(stay.area, event), line_by(event, speed))
 }
 
 // Whether an event deletes the sections: a GMD that enters the partial area.
 pub fn deletes_sections(event: Event, stay: Stay) -> bool
     ensures { result ≡ deletes_sections event stay }
 {
-    let area = stay.area;
-    is_event(Event::GMD, event) & !is_area(Area::Partial, area)
+    (event == Event::GMD) & (stay.area != Area::Partial)
 }
 
 // The stay after so many cm moved: the partial area is entered once 50 m are covered.
 pub fn covered_stay(moved: u16, stay: Stay) -> Stay
     ensures { result ≡ covered_stay moved stay }
 {
-    let overlap = stay.overlap;
-    match overlap {
-        Overlap::Present => stay,
-        Overlap::Missing(covered) => {
-            let sum = covered as u32 + moved as u32;
-            if 5000 <= sum {
-                let area = stay.area;
-                return begun_stay(target_of(area, Event::NoOverlap), LineSpeed::Dark);
-            }
-            with_overlap(stay, Overlap::Missing(sum as u16))
-        }
+    let Some(covered) = stay.missing else {
+        return stay;
+    };
+    let sum = covered as u32 + moved as u32;
+    if 5000 <= sum {
+        return begun_stay(target_of(stay.area, Event::NoOverlap), None);
     }
-}
-
-fn line_speed(line: LineSpeed) -> u16
-    ensures { result ≡ line_speed line }
-{
-    match line {
-        LineSpeed::Dark => 130,
-        LineSpeed::Board(speed) => speed,
+    Stay {
+        missing: Some(sum as u16),
+        ..stay
     }
 }
 
@@ -115,10 +80,9 @@ fn line_speed(line: LineSpeed) -> u16
 pub fn area_speed(speed: u16, stay: Stay) -> u16
     ensures { result ≡ area_speed speed stay }
 {
-    let area = stay.area;
-    if is_area(Area::Partial, area) {
-        let line = stay.line;
-        return line_speed(line);
+    if stay.area == Area::Partial {
+        stay.line.unwrap_or(130)
+    } else {
+        speed
     }
-    speed
 }

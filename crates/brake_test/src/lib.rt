@@ -23,47 +23,25 @@ pub fn fresh_test() -> BrakeTest
 pub fn is_running(stage: Stage) -> bool
     ensures { result ≡ is_running stage }
 {
-    match stage {
-        Stage::Idle => false,
-        Stage::Settling(_) => true,
-        Stage::Braking {
-            steady: _,
-            reports: _,
-        } => true,
-    }
+    !matches!(stage, Stage::Idle)
 }
 
 pub fn is_test_braking(stage: Stage) -> bool
     ensures { result ≡ is_test_braking stage }
 {
-    match stage {
-        Stage::Idle => false,
-        Stage::Settling(_) => false,
-        Stage::Braking {
-            steady: _,
-            reports: _,
-        } => true,
-    }
+    matches!(stage, Stage::Braking { .. })
 }
 
 pub fn has_passed(res: Verdict) -> bool
     ensures { result ≡ has_passed res }
 {
-    match res {
-        Verdict::Pending => false,
-        Verdict::Passed => true,
-        Verdict::Failed => false,
-    }
+    res == Verdict::Passed
 }
 
 pub fn has_failed(res: Verdict) -> bool
     ensures { result ≡ has_failed res }
 {
-    match res {
-        Verdict::Pending => false,
-        Verdict::Passed => false,
-        Verdict::Failed => true,
-    }
+    res == Verdict::Failed
 }
 
 // ---- its start and its end
@@ -72,10 +50,9 @@ pub fn has_failed(res: Verdict) -> bool
 pub fn begun_test(test: BrakeTest) -> BrakeTest
     ensures { result ≡ begun_test test }
 {
-    let result = test.result;
     BrakeTest {
         stage: Stage::Settling(Phase::Waiting),
-        result,
+        ..test
     }
 }
 
@@ -92,8 +69,7 @@ fn ended_test(verdict: Verdict) -> BrakeTest
 pub fn left_test(test: BrakeTest) -> BrakeTest
     ensures { result ≡ left_test test }
 {
-    let stage = test.stage;
-    if is_running(stage) {
+    if is_running(test.stage) {
         ended_test(Verdict::Failed)
     } else {
         test
@@ -114,10 +90,7 @@ fn phase_on(train: Train, external: i16, phase: Phase) -> Phase
     ensures { result ≡ phase_on train external phase }
 {
     let fresh = pressure::fresh();
-    let pressures = fresh.pressures;
-    let feed = train.feed;
-    let after = pressure::report(phase, pressures, feed, train.pressure, external);
-    after.phase
+    pressure::report(phase, fresh.pressures, train.feed, train.pressure, external).phase
 }
 
 // The stage with this phase: once P_INT has settled, the test brakes.
@@ -125,15 +98,11 @@ fn stage_of(phase: Phase) -> Stage
     ensures { result ≡ stage_of phase }
 {
     match phase {
-        Phase::Waiting => Stage::Settling(Phase::Waiting),
-        Phase::Settling { saved, reports } => Stage::Settling(Phase::Settling { saved, reports }),
-        Phase::Set {
-            reference,
-            reports: _,
-        } => Stage::Braking {
+        Phase::Set { reference, .. } => Stage::Braking {
             steady: reference,
             reports: 0,
         },
+        Phase::Waiting | Phase::Settling { .. } => Stage::Settling(phase),
     }
 }
 
@@ -169,21 +138,18 @@ fn braked_on(limit: u8, dropped: bool, steady: f32, reports: u8, res: Verdict) -
 }
 
 // After a report that does not fail it at once.
-fn gone_on(train: Train, feedback: Measured, external: i16, res: Verdict, stage: Stage) -> BrakeTest
-    ensures { result ≡ gone_on train feedback external res stage }
+fn gone_on(train: Train, feedback: Measured, external: i16, test: BrakeTest) -> BrakeTest
+    ensures { result ≡ gone_on train feedback external test.result test.stage }
 {
-    match stage {
-        Stage::Idle => BrakeTest {
-            stage: Stage::Idle,
-            result: res,
-        },
+    match test.stage {
+        Stage::Idle => test,
         Stage::Settling(phase) => BrakeTest {
             stage: stage_of(phase_on(train, external, phase)),
-            result: res,
+            ..test
         },
         Stage::Braking { steady, reports } => {
             let dropped = has_dropped(steady, feedback.pressures.pressure);
-            braked_on(train.times.brake, dropped, steady, reports, res)
+            braked_on(train.times.brake, dropped, steady, reports, test.result)
         }
     }
 }
@@ -192,12 +158,10 @@ fn gone_on(train: Train, feedback: Measured, external: i16, res: Verdict, stage:
 pub fn tested_at(train: Train, feedback: Measured, r: Reading, test: BrakeTest) -> BrakeTest
     ensures { result ≡ tested_at train feedback r test }
 {
-    let stage = test.stage;
-    let result = test.result;
-    if is_running(stage) & is_unfit(feedback, r) {
+    if is_running(test.stage) & is_unfit(feedback, r) {
         return ended_test(Verdict::Failed);
     }
-    gone_on(train, feedback, r.external, result, stage)
+    gone_on(train, feedback, r.external, test)
 }
 
 // What is left of the extra in the leads: none once a test has passed.

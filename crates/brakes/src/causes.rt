@@ -1,68 +1,79 @@
 // The table of causes, column by column; each column is the causes for which its test passes.
-ghost use Rattle.std.specs.Prelude.{◌≡◌, not, ◌&&◌, ◌+◌, ◌*◌, leb};
+ghost use Rattle.std.specs.Prelude.{◌≡◌, not, ◌&&◌, ◌||◌, false, ◌+◌, ◌*◌, leb};
 ghost use Rattle.rules.specs.Numbers.{is_order};
-ghost use Rattle.rules.specs.Table.{stands, causes_for, no_causes, curve_orders, ordered_at, is_stop, ordered_by, strength_of, stands_with, any_stands, order_of, is_slow, releasable_when, others_releasable, added_causes, is_dropped, left_causes};
+ghost use Rattle.rules.specs.declared.Cause.{Cause};
+ghost use Rattle.rules.specs.Table.{stands, causes_for, no_causes, curve_orders, ordered_at, is_stop, ordered_by, strength_of, stands_with, any_stands, order_of, is_slow, releasable_when, others_releasable, added_causes, pressed_for, is_dropped, left_causes};
 ghost use Rattle.rules.specs.Reports.{would_drop};
 
 use crate::hold::is_unheld;
-use encoding::numbers::{is_code, order_number};
 use rules::{Causes, Code, Order, Seen};
+
+// Every cause, or none.
+fn alike(stands: bool) -> Causes
+    ensures { result ≡ causes_for (λ cause. stands) }
+{
+    Causes {
+        overspeed: stands,
+        excess: stands,
+        full: stands,
+        soft: stands,
+        emergency: stands,
+        aimed: stands,
+        unexpected: stands,
+        speed: stands,
+        landslide: stands,
+        balise: stands,
+        rolling: stands,
+        service: stands,
+    }
+}
 
 pub fn no_causes() -> Causes
     ensures { result ≡ no_causes }
 {
+    alike(false)
+}
+
+// What a test says of each cause, by whether it stands in c and in d.
+fn each<F: Fn(bool, bool) -> bool>(c: Causes, d: Causes, test: F) -> Causes
+    requires { F.IsAlwaysCallable test }
+    ensures { (cause : Cause) → F.post test (stands c cause) (stands d cause) (stands result cause) }
+{
     Causes {
-        overspeed: false,
-        excess: false,
-        full: false,
-        soft: false,
-        emergency: false,
-        aimed: false,
-        unexpected: false,
-        speed: false,
-        landslide: false,
-        balise: false,
-        rolling: false,
-        service: false,
+        overspeed: test(c.overspeed, d.overspeed),
+        excess: test(c.excess, d.excess),
+        full: test(c.full, d.full),
+        soft: test(c.soft, d.soft),
+        emergency: test(c.emergency, d.emergency),
+        aimed: test(c.aimed, d.aimed),
+        unexpected: test(c.unexpected, d.unexpected),
+        speed: test(c.speed, d.speed),
+        landslide: test(c.landslide, d.landslide),
+        balise: test(c.balise, d.balise),
+        rolling: test(c.rolling, d.rolling),
+        service: test(c.service, d.service),
     }
 }
 
 // Those of c that are among d too.
-fn common(mut c: Causes, d: Causes) -> Causes
+fn common(c: Causes, d: Causes) -> Causes
     ensures { result ≡ causes_for (λ cause. stands c cause && stands d cause) }
 {
-    c.overspeed = c.overspeed & d.overspeed;
-    c.excess = c.excess & d.excess;
-    c.full = c.full & d.full;
-    c.soft = c.soft & d.soft;
-    c.emergency = c.emergency & d.emergency;
-    c.aimed = c.aimed & d.aimed;
-    c.unexpected = c.unexpected & d.unexpected;
-    c.speed = c.speed & d.speed;
-    c.landslide = c.landslide & d.landslide;
-    c.balise = c.balise & d.balise;
-    c.rolling = c.rolling & d.rolling;
-    c.service = c.service & d.service;
-    c
+    each(c, d, |here, there| here & there)
 }
 
 // Those of c that are not among d.
-fn without(mut c: Causes, d: Causes) -> Causes
+fn without(c: Causes, d: Causes) -> Causes
     ensures { result ≡ causes_for (λ cause. stands c cause && not (stands d cause)) }
 {
-    c.overspeed = c.overspeed & !d.overspeed;
-    c.excess = c.excess & !d.excess;
-    c.full = c.full & !d.full;
-    c.soft = c.soft & !d.soft;
-    c.emergency = c.emergency & !d.emergency;
-    c.aimed = c.aimed & !d.aimed;
-    c.unexpected = c.unexpected & !d.unexpected;
-    c.speed = c.speed & !d.speed;
-    c.landslide = c.landslide & !d.landslide;
-    c.balise = c.balise & !d.balise;
-    c.rolling = c.rolling & !d.rolling;
-    c.service = c.service & !d.service;
-    c
+    each(c, d, |here, there| here & !there)
+}
+
+// Those of c and those of d.
+fn together(c: Causes, d: Causes) -> Causes
+    ensures { result ≡ causes_for (λ cause. stands c cause || stands d cause) }
+{
+    each(c, d, |here, there| here | there)
 }
 
 // Whether any order stands.
@@ -89,7 +100,7 @@ pub fn any_stands(c: Causes) -> bool
 fn reaches(v: u16, limit: u16, more: u8) -> bool
     ensures { result ≡ leb (250 * (limit + more)) (9 * v) }
 {
-    250 * (limit as u32 + more as u32) <= 9 * v as u32
+    250 * (u32::from(limit) + u32::from(more)) <= 9 * u32::from(v)
 }
 
 fn curve_orders(s: Seen) -> bool
@@ -99,55 +110,55 @@ fn curve_orders(s: Seen) -> bool
 }
 
 // The causes with those ordered at an odometer report; `fault` is bit 11's order.
-pub fn added_at(s: Seen, fault: bool, mut c: Causes) -> Causes
+pub fn added_at(s: Seen, fault: bool, c: Causes) -> Causes
     ensures { result ≡ added_causes (ordered_at s fault) c }
 {
     let curves = curve_orders(s);
-    c.overspeed = c.overspeed | reaches(s.speed, s.vmax, 10);
-    c.excess = c.excess | reaches(s.speed, s.vmax, s.margin);
-    c.full = c.full | (curves & !s.halka);
-    c.soft = c.soft | (curves & s.halka);
-    c.emergency = c.emergency | s.f;
-    c.rolling = c.rolling | s.rolled;
-    c.service = c.service | fault;
-    c
+    let ordered = Causes {
+        overspeed: reaches(s.speed, s.vmax, 10),
+        excess: reaches(s.speed, s.vmax, s.margin),
+        full: curves & !s.halka,
+        soft: curves & s.halka,
+        emergency: s.f,
+        rolling: s.rolled,
+        service: fault,
+        ..no_causes()
+    };
+    together(c, ordered)
 }
 
 // Whether a command is a stop passed of this kind.
 pub fn is_stop(wanted: u8, code: Code, which: u8) -> bool
     ensures { result ≡ is_stop wanted code which }
 {
-    is_code(Code::StopPassed, code) & (which == wanted)
+    (code == Code::StopPassed) & (which == wanted)
 }
 
 // The causes with those ordered by another command, with its first operand.
-pub fn added_by(code: Code, which: u8, mut c: Causes) -> Causes
+pub fn added_by(code: Code, which: u8, c: Causes) -> Causes
     ensures { result ≡ added_causes (ordered_by code which) c }
 {
     let unexpected = is_stop(1, code, which);
-    c.aimed = c.aimed | is_stop(0, code, which);
-    c.unexpected = c.unexpected | unexpected;
-    c.speed = c.speed | unexpected;
-    c.landslide = c.landslide | is_stop(2, code, which);
-    c.balise = c.balise | is_code(Code::BaliseError, code);
-    c
+    let ordered = Causes {
+        aimed: is_stop(0, code, which),
+        unexpected,
+        speed: unexpected,
+        landslide: is_stop(2, code, which),
+        balise: code == Code::BaliseError,
+        ..no_causes()
+    };
+    together(c, ordered)
 }
 
 // ---- the column "Strength"
-
-fn is_order(wanted: Order, order: Order) -> bool
-    ensures { result ≡ is_order wanted order }
-{
-    order_number(order) == order_number(wanted)
-}
 
 // The causes of this strength.
 fn of_strength(strength: Order) -> Causes
     ensures { result ≡ causes_for (λ cause. is_order strength (strength_of cause)) }
 {
-    let emergency = is_order(strength, Order::Emergency);
-    let full = is_order(strength, Order::Full);
-    let soft = is_order(strength, Order::Soft);
+    let emergency = strength == Order::Emergency;
+    let full = strength == Order::Full;
+    let soft = strength == Order::Soft;
     Causes {
         overspeed: soft,
         excess: emergency,
@@ -176,18 +187,14 @@ pub fn order_of(softly: bool, c: Causes) -> Order
     ensures { result ≡ order_of softly c }
 {
     if stands_with(Order::Emergency, c) {
-        return Order::Emergency;
+        Order::Emergency
+    } else if stands_with(Order::Full, c) {
+        Order::Full
+    } else if stands_with(Order::Soft, c) {
+        if softly { Order::Soft } else { Order::Full }
+    } else {
+        Order::Nothing
     }
-    if stands_with(Order::Full, c) {
-        return Order::Full;
-    }
-    if stands_with(Order::Soft, c) {
-        if softly {
-            return Order::Soft;
-        }
-        return Order::Full;
-    }
-    Order::Nothing
 }
 
 // ---- the column "Releasable when"
@@ -195,7 +202,7 @@ pub fn order_of(softly: bool, c: Causes) -> Order
 fn is_slow(s: Seen) -> bool
     ensures { result ≡ is_slow s }
 {
-    9 * (s.speed as u32) < 250 * (s.vmax as u32 + 5)
+    9 * u32::from(s.speed) < 250 * (u32::from(s.vmax) + 5)
 }
 
 // The causes that are releasable; `others` is bit 11's test.
@@ -205,7 +212,6 @@ fn releasable(s: Seen, others: bool) -> Causes
     let slow = is_slow(s);
     let clear = !s.d;
     let since = s.since;
-    let hold = since.balise;
     Causes {
         overspeed: slow,
         excess: slow,
@@ -216,7 +222,7 @@ fn releasable(s: Seen, others: bool) -> Causes
         unexpected: since.unexpected,
         speed: slow,
         landslide: since.landslide,
-        balise: is_unheld(hold, s.speed),
+        balise: is_unheld(since.balise, s.speed),
         rolling: true,
         service: others,
     }
@@ -231,24 +237,22 @@ fn others_releasable(s: Seen, c: Causes) -> bool
 
 // ---- releasing
 
-// The causes that presses of LOSS and text would drop.
+// The causes that presses of LOSS and text may drop.
+fn pressed(loss: bool, text: bool) -> Causes
+    ensures { result ≡ causes_for (pressed_for loss text) }
+{
+    Causes {
+        rolling: text,
+        ..alike(loss)
+    }
+}
+
+// The causes that the presses would drop.
 fn dropped(s: Seen, loss: bool, text: bool, c: Causes) -> Causes
     ensures { result ≡ causes_for (is_dropped s loss text c) }
 {
-    let mut free = releasable(s, others_releasable(s, c));
-    free.overspeed = loss & free.overspeed;
-    free.excess = loss & free.excess;
-    free.full = loss & free.full;
-    free.soft = loss & free.soft;
-    free.emergency = loss & free.emergency;
-    free.aimed = loss & free.aimed;
-    free.unexpected = loss & free.unexpected;
-    free.speed = loss & free.speed;
-    free.landslide = loss & free.landslide;
-    free.balise = loss & free.balise;
-    free.rolling = text & free.rolling;
-    free.service = loss & free.service;
-    free
+    let free = releasable(s, others_releasable(s, c));
+    common(pressed(loss, text), free)
 }
 
 // The causes that are left.

@@ -10,8 +10,7 @@ use rules::Check;
 pub fn is_drop(feedback: Measured) -> bool
     ensures { result ≡ is_drop feedback }
 {
-    let pressures = feedback.pressures;
-    60.0 <= pressure::drop_of(pressures)
+    60.0 <= pressure::drop_of(feedback.pressures)
 }
 
 // The check of an order that stood, after one more report.
@@ -19,16 +18,15 @@ fn counted_on(limit: u8, dropped: bool, check: Check) -> Check
     ensures { result ≡ counted_on limit dropped check }
 {
     match check {
-        Check::Idle => Check::Idle,
+        Check::Idle | Check::Done => check,
         Check::Counting(count) => {
-            let next = count as u16 + 1;
-            if dropped | (limit as u16 <= next) {
+            let next = count.saturating_add(1);
+            if dropped | (limit <= next) {
                 Check::Done
             } else {
-                Check::Counting(next as u8)
+                Check::Counting(next)
             }
         }
-        Check::Done => Check::Done,
     }
 }
 
@@ -37,9 +35,8 @@ fn fails_now(limit: u8, dropped: bool, check: Check) -> bool
     ensures { result ≡ fails_now limit dropped check }
 {
     match check {
-        Check::Idle => false,
-        Check::Counting(count) => !dropped & (limit as u16 <= count as u16 + 1),
-        Check::Done => false,
+        Check::Idle | Check::Done => false,
+        Check::Counting(count) => !dropped & (limit <= count.saturating_add(1)),
     }
 }
 

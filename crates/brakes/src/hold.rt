@@ -2,13 +2,12 @@
 ghost use Rattle.std.specs.Prelude.{◌≡◌};
 ghost use Rattle.rules.specs.Hold.{is_up_to80, decided_at, held_on, is_unheld, hold_by};
 
-use encoding::numbers::is_code;
 use rules::{Code, Hold};
 
 fn is_up_to_80(v: u16) -> bool
     ensures { result ≡ is_up_to80 v }
 {
-    9 * v as u32 <= 250 * 80
+    9 * u32::from(v) <= 250 * 80
 }
 
 // By the speed at the error.
@@ -26,7 +25,7 @@ fn decided_at(v: u16) -> Hold
 pub fn hold_by(code: Code, v: u16, hold: Hold) -> Hold
     ensures { result ≡ hold_by code v hold }
 {
-    if is_code(Code::BaliseError, code) {
+    if code == Code::BaliseError {
         decided_at(v)
     } else {
         hold
@@ -38,15 +37,8 @@ pub fn held_on(hold: Hold) -> Hold
     ensures { result ≡ held_on hold }
 {
     match hold {
-        Hold::Undecided => Hold::Undecided,
-        Hold::High => Hold::High,
-        Hold::Low(count) => {
-            if count < 20 {
-                Hold::Low(count + 1)
-            } else {
-                Hold::Low(20)
-            }
-        }
+        Hold::Undecided | Hold::High => hold,
+        Hold::Low(count) => Hold::Low(count.saturating_add(1).min(20)),
     }
 }
 
@@ -55,8 +47,7 @@ pub fn is_unheld(hold: Hold, v: u16) -> bool
     ensures { result ≡ is_unheld hold v }
 {
     match hold {
-        Hold::Undecided => is_up_to_80(v),
-        Hold::High => is_up_to_80(v),
+        Hold::Undecided | Hold::High => is_up_to_80(v),
         Hold::Low(count) => 20 <= count,
     }
 }

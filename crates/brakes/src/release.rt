@@ -5,7 +5,7 @@ ghost use Rattle.rules.specs.Releases.{fresh_brakes, is_halt, is_braked, since_a
 use crate::causes::{added_at, added_by, any_stands, is_stop, left_causes, no_causes, stands_with};
 use crate::check::{check_left, checked_at, checked_by, fails_at};
 use crate::hold::{held_on, hold_by};
-use rules::{Brakes, Causes, Check, Code, Hold, Order, Reading, Roll, Seen, Since, Train};
+use rules::{Brakes, Causes, Check, Code, Hold, Order, Reading, Seen, Since, Train};
 
 // No cause, no count, no note, no brake fault.
 pub fn fresh_brakes() -> Brakes
@@ -21,7 +21,7 @@ pub fn fresh_brakes() -> Brakes
         },
         service: Check::Idle,
         emergency: Check::Idle,
-        roll: Roll::Ended,
+        roll: None,
         drift: false,
         failed: false,
     }
@@ -38,85 +38,61 @@ fn is_halt(r: Reading) -> bool
 fn is_braked(full: u16, r: Reading) -> bool
     ensures { result ≡ is_braked full r }
 {
-    7 * full as i32 <= 10 * r.measured as i32
+    7 * i32::from(full) <= 10 * i32::from(r.measured)
 }
 
 fn since_at(full: u16, r: Reading, since: Since) -> Since
     ensures { result ≡ since_at full r since }
 {
     let halted = is_halt(r);
-    let hold = since.balise;
     Since {
         aimed: since.aimed | halted,
         unexpected: since.unexpected | is_braked(full, r),
         landslide: since.landslide | halted,
-        balise: held_on(hold),
+        balise: held_on(since.balise),
     }
-}
-
-fn lower(x: u32, y: u32) -> u32
-    ensures { result ≡ min x y }
-{
-    if x <= y { x } else { y }
 }
 
 // The ground rolled with neutral, kept up to 501.
-fn rolled_on(moved: u16, roll: Roll) -> Roll
+fn rolled_on(moved: u16, roll: Option<u16>) -> Option<u16>
     ensures { result ≡ rolled_on moved roll }
 {
-    match roll {
-        Roll::Ended => Roll::Ended,
-        Roll::Rolled(covered) => Roll::Rolled(lower(501, covered as u32 + moved as u32) as u16),
-    }
+    roll.map(|covered| covered.saturating_add(moved).min(501))
 }
 
-fn roll_at(r: Reading, roll: Roll) -> Roll
+fn roll_at(r: Reading, roll: Option<u16>) -> Option<u16>
     ensures { result ≡ roll_at r roll }
 {
     if is_halt(r) {
-        return Roll::Rolled(0);
+        Some(0)
+    } else if r.neutral {
+        rolled_on(r.moved, roll)
+    } else {
+        None
     }
-    if r.neutral {
-        return rolled_on(r.moved, roll);
-    }
-    Roll::Ended
 }
 
 // Whether more than 500 cm were rolled.
-pub fn is_rolled(roll: Roll) -> bool
+pub fn is_rolled(roll: Option<u16>) -> bool
     ensures { result ≡ is_rolled roll }
 {
-    match roll {
-        Roll::Ended => false,
-        Roll::Rolled(covered) => 500 < covered,
-    }
+    roll.is_some_and(|covered| 500 < covered)
 }
 
 // The ground rolled, after bit 10 is dropped.
-fn roll_back(roll: Roll) -> Roll
+fn roll_back(roll: Option<u16>) -> Option<u16>
     ensures { result ≡ roll_back roll }
 {
-    match roll {
-        Roll::Ended => Roll::Ended,
-        Roll::Rolled(_) => Roll::Rolled(0),
-    }
+    roll.map(|_| 0)
 }
 
 pub fn noted_brakes(train: Train, r: Reading, b: Brakes) -> Brakes
     ensures { result ≡ noted_brakes train r b }
 {
-    let causes = b.causes;
-    let service = b.service;
-    let emergency = b.emergency;
-    let roll = b.roll;
     Brakes {
-        causes,
         since: since_at(train.full, r, b.since),
-        service,
-        emergency,
-        roll: roll_at(r, roll),
-        drift: b.drift,
-        failed: b.failed,
+        roll: roll_at(r, b.roll),
+        ..b
     }
 }
 
@@ -126,20 +102,18 @@ pub fn noted_brakes(train: Train, r: Reading, b: Brakes) -> Brakes
 fn service_fails(train: Train, dropped: bool, b: Brakes) -> bool
     ensures { result ≡ service_fails train dropped b }
 {
-    let check = b.service;
-    fails_at(any_stands(b.causes), train.times.brake, dropped, check)
+    fails_at(any_stands(b.causes), train.times.brake, dropped, b.service)
 }
 
 // The check of an emergency order fails at T_EBCHK.
 fn emergency_fails(train: Train, dropped: bool, b: Brakes) -> bool
     ensures { result ≡ emergency_fails train dropped b }
 {
-    let check = b.emergency;
     fails_at(
         stands_with(Order::Emergency, b.causes),
         train.check,
         dropped,
-        check,
+        b.emergency,
     )
 }
 
@@ -147,39 +121,34 @@ fn emergency_fails(train: Train, dropped: bool, b: Brakes) -> bool
 pub fn added_brakes(train: Train, dropped: bool, s: Seen, b: Brakes) -> Brakes
     ensures { result ≡ added_brakes train dropped s b }
 {
-    let since = b.since;
-    let service = b.service;
-    let emergency = b.emergency;
-    let roll = b.roll;
     let fault = service_fails(train, dropped, b);
     let after = added_at(s, fault, b.causes);
     Brakes {
         causes: after,
-        since,
         service: checked_at(
             any_stands(b.causes),
             any_stands(after),
             train.times.brake,
             dropped,
-            service,
+            b.service,
         ),
         emergency: checked_at(
             stands_with(Order::Emergency, b.causes),
             stands_with(Order::Emergency, after),
             train.check,
             dropped,
-            emergency,
+            b.emergency,
         ),
-        roll,
         drift: b.drift | fault,
         failed: b.failed | emergency_fails(train, dropped, b),
+        ..b
     }
 }
 
 // ---- releasing
 
 // The rolled ground, by whether bit 10 stood and whether it is left.
-fn roll_left(stood: bool, left: bool, roll: Roll) -> Roll
+fn roll_left(stood: bool, left: bool, roll: Option<u16>) -> Option<u16>
     ensures { result ≡ roll_left stood left roll }
 {
     if stood & !left { roll_back(roll) } else { roll }
@@ -189,19 +158,14 @@ fn roll_left(stood: bool, left: bool, roll: Roll) -> Roll
 fn left_brakes(c: Causes, b: Brakes) -> Brakes
     ensures { result ≡ left_brakes c b }
 {
-    let since = b.since;
-    let service = b.service;
-    let emergency = b.emergency;
-    let roll = b.roll;
     let any = any_stands(c);
     Brakes {
         causes: c,
-        since,
-        service: check_left(any, service),
-        emergency: check_left(stands_with(Order::Emergency, c), emergency),
-        roll: roll_left(b.causes.rolling, c.rolling, roll),
+        service: check_left(any, b.service),
+        emergency: check_left(stands_with(Order::Emergency, c), b.emergency),
+        roll: roll_left(b.causes.rolling, c.rolling, b.roll),
         drift: b.drift & any,
-        failed: b.failed,
+        ..b
     }
 }
 
@@ -217,12 +181,11 @@ pub fn released_brakes(s: Seen, loss: bool, text: bool, b: Brakes) -> Brakes
 fn since_by(code: Code, which: u8, v: u16, since: Since) -> Since
     ensures { result ≡ since_by code which v since }
 {
-    let hold = since.balise;
     Since {
         aimed: since.aimed & !is_stop(0, code, which),
         unexpected: since.unexpected & !is_stop(1, code, which),
         landslide: since.landslide & !is_stop(2, code, which),
-        balise: hold_by(code, v, hold),
+        balise: hold_by(code, v, since.balise),
     }
 }
 
@@ -230,21 +193,16 @@ fn since_by(code: Code, which: u8, v: u16, since: Since) -> Since
 pub fn brakes_by(code: Code, which: u8, v: u16, b: Brakes) -> Brakes
     ensures { result ≡ brakes_by code which v b }
 {
-    let service = b.service;
-    let emergency = b.emergency;
-    let roll = b.roll;
     let after = added_by(code, which, b.causes);
     Brakes {
         causes: after,
         since: since_by(code, which, v, b.since),
-        service: checked_by(any_stands(b.causes), any_stands(after), service),
+        service: checked_by(any_stands(b.causes), any_stands(after), b.service),
         emergency: checked_by(
             stands_with(Order::Emergency, b.causes),
             stands_with(Order::Emergency, after),
-            emergency,
+            b.emergency,
         ),
-        roll,
-        drift: b.drift,
-        failed: b.failed,
+        ..b
     }
 }

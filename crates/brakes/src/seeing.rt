@@ -7,14 +7,13 @@ use crate::release::is_rolled;
 use curve::{Interval, Judged};
 use places::CURVES;
 use pressure::Measured;
-use rules::{Kept, Roll, Seen, Since, Train};
+use rules::{Kept, Seen, Since, Train};
 
 // The drop is below the sufficient application.
 pub fn is_insufficient(train: Train, feedback: Measured) -> bool
     ensures { result ≡ is_insufficient train feedback }
 {
-    let pressures = feedback.pressures;
-    pressure::drop_of(pressures) < train.sufficient as f32
+    pressure::drop_of(feedback.pressures) < f32::from(train.sufficient)
 }
 
 // Where the curves say this, and VMAX is this.
@@ -25,7 +24,7 @@ pub fn seen_with(
     feedback: Measured,
     kept: Kept,
     since: Since,
-    roll: Roll,
+    roll: Option<u16>,
 ) -> Seen
     ensures { result ≡ seen_with judged vmax train feedback kept since roll }
 {
@@ -44,10 +43,11 @@ pub fn seen_with(
 }
 
 // The same with another rolled ground.
-pub fn rolled_in(s: Seen, roll: Roll) -> Seen
+pub fn rolled_in(s: Seen, roll: Option<u16>) -> Seen
     ensures { result ≡ record { speed = s.speed; vmax = s.vmax; margin = s.margin; d = s.d; e = s.e; f = s.f; insufficient = s.insufficient; halka = s.halka; since = s.since; rolled = is_rolled roll } }
 {
-    let mut next = s;
-    next.rolled = is_rolled(roll);
-    next
+    Seen {
+        rolled: is_rolled(roll),
+        ..s
+    }
 }

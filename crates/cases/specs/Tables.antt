@@ -1,6 +1,6 @@
 -- The tables of 01, each a list written from the paper, with a test that lays it beside the definitions: where it can be, by the
 -- answers and reports of whole calls with raw bytes. Proved in proofs/.
-use Rattle.std.specs.Prelude.{◌≡◌, ℕ, zero, suc, pred, ◌+◌, ◌/◌, ◌%◌, ◌^◌, Bool, true, false, cond, not, ◌&&◌, eqb, ℤ, pos, ◌-ℤ◌, take, drop, replicate}
+use Rattle.std.specs.Prelude.{◌≡◌, ℕ, zero, suc, pred, ◌+◌, ◌/◌, ◌%◌, ◌^◌, Bool, true, false, cond, not, ◌&&◌, eqb, ℤ, pos, ◌-ℤ◌, take, drop, replicate, Option, Some, None}
 use mathlib.Core.List.{List, [], ◌∷◌, ◌++◌, map, foldr, zip_with}
 use Rattle.std.specs.Int.Signed.{le_z}
 use Rattle.wire.specs.Numbers.{number}
@@ -15,7 +15,6 @@ use Rattle.curve.specs.declared.Interval.{Interval}
 use Rattle.curve.specs.declared.Shown.{Shown}
 use Rattle.colours.specs.Numbers.{showing_number, bar_number, mode_number}
 use Rattle.colours.specs.Rows.{row_of}
-use Rattle.colours.specs.declared.Showing.{Showing}
 use Rattle.colours.specs.declared.Bar.{Bar}
 use Rattle.colours.specs.declared.Mode.{Mode}
 use Rattle.rules.specs.Numbers.{answer_number, code_number, code_of, state_number, state_of, order_number, bit_number}
@@ -275,17 +274,17 @@ numbers_told =
 
 -- ---- intervals, bars and modes
 
-abbrev pub showings : List Showing
+abbrev pub showings : List (Option Shown)
 showings =
-    Showing.NoCurve
-    ∷ Showing.Curve (Shown.Computed Interval.A)
-    ∷ Showing.Curve Shown.Ab
-    ∷ Showing.Curve (Shown.Computed Interval.Bf)
-    ∷ Showing.Curve (Shown.Computed Interval.B)
-    ∷ Showing.Curve (Shown.Computed Interval.C)
-    ∷ Showing.Curve (Shown.Computed Interval.D)
-    ∷ Showing.Curve (Shown.Computed Interval.E)
-    ∷ Showing.Curve (Shown.Computed Interval.F)
+    None
+    ∷ Some (Shown.Computed Interval.A)
+    ∷ Some Shown.Ab
+    ∷ Some (Shown.Computed Interval.Bf)
+    ∷ Some (Shown.Computed Interval.B)
+    ∷ Some (Shown.Computed Interval.C)
+    ∷ Some (Shown.Computed Interval.D)
+    ∷ Some (Shown.Computed Interval.E)
+    ∷ Some (Shown.Computed Interval.F)
     ∷ []
 
 -- by whether the shown curve is past permitted and whether the drop is sufficient; "Bars: A none, Bf light grey 1, others yellow 2",

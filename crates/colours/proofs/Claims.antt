@@ -7,13 +7,13 @@ use mathlib.Core.List.{List, [], ◌∷◌}
 use lib.Dec.{eqb}
 use lib.ListN.{length, get_or}
 use borrow.Author.Tests.{eqb-true}
+use Rattle.std.specs.Prelude.{Option, Some, None}
 use Rattle.curve.specs.declared.Interval.{Interval}
 use Rattle.curve.specs.declared.Shown.{Shown}
 use Rattle.colours.specs.Numbers.{bar_number, mode_number}
 use Rattle.colours.specs.Rows.{rows, holds_for, passing, rows_for, first_of, row_of}
 use Rattle.colours.specs.Before.{bar_before, mode_before}
 use Rattle.colours.specs.Claims.{OneRow, OneRowHolds, AbIsOneRow}
-use Rattle.colours.specs.declared.Showing.{Showing}
 use Rattle.colours.specs.declared.Row.{Row}
 use Rattle.laws.proofs.Lists.{◌∈◌}
 
@@ -27,10 +27,10 @@ is_one bar mode [] = false
 is_one bar mode (r ∷ []) = eqb (bar_number r.bar) bar && eqb (mode_number r.mode) mode
 is_one bar mode (r ∷ s ∷ rs) = false
 
-is_one_at : Bool → Bool → Showing → Bool
+is_one_at : Bool → Bool → Option Shown → Bool
 is_one_at past sufficient showing = is_one (bar_before showing) (mode_before past (not sufficient) showing) (rows_for past sufficient showing)
 
-one_at : (past sufficient : Bool) (showing : Showing) → is_one_at past sufficient showing ≡ true → OneRow past sufficient showing
+one_at : (past sufficient : Bool) (showing : Option Shown) → is_one_at past sufficient showing ≡ true → OneRow past sufficient showing
 unfolding is_one is_one_at row_of
 one_at past sufficient showing t = by (rows_for past sufficient showing) refl t
   where
@@ -43,20 +43,20 @@ one_at past sufficient showing t = by (rows_for past sufficient showing) refl t
     by (r ∷ s ∷ rs) e t = absurd (false≢true t)
 
 -- at each thing that can be shown, under each of the four conditions
-conditions : Showing → List Bool
+conditions : Option Shown → List Bool
 conditions showing = is_one_at true true showing ∷ is_one_at true false showing ∷ is_one_at false true showing ∷ is_one_at false false showing ∷ []
 
-computed : (showing : Showing) → conditions showing ≡ true ∷ true ∷ true ∷ true ∷ []
+computed : (showing : Option Shown) → conditions showing ≡ true ∷ true ∷ true ∷ true ∷ []
 unfolding rows holds_for passing rows_for is_one is_one_at conditions
-computed Showing.NoCurve = refl
-computed (Showing.Curve Shown.Ab) = refl
-computed (Showing.Curve (Shown.Computed Interval.A)) = refl
-computed (Showing.Curve (Shown.Computed Interval.Bf)) = refl
-computed (Showing.Curve (Shown.Computed Interval.B)) = refl
-computed (Showing.Curve (Shown.Computed Interval.C)) = refl
-computed (Showing.Curve (Shown.Computed Interval.D)) = refl
-computed (Showing.Curve (Shown.Computed Interval.E)) = refl
-computed (Showing.Curve (Shown.Computed Interval.F)) = refl
+computed None = refl
+computed (Some Shown.Ab) = refl
+computed (Some (Shown.Computed Interval.A)) = refl
+computed (Some (Shown.Computed Interval.Bf)) = refl
+computed (Some (Shown.Computed Interval.B)) = refl
+computed (Some (Shown.Computed Interval.C)) = refl
+computed (Some (Shown.Computed Interval.D)) = refl
+computed (Some (Shown.Computed Interval.E)) = refl
+computed (Some (Shown.Computed Interval.F)) = refl
 
 pub one_row_holds : OneRowHolds
 unfolding conditions
@@ -82,7 +82,7 @@ passing_from test (r ∷ rs) m = by (test r) refl m (passing_from test rs)
     by false t m on = let o = on m in (Memᴰ.tail o.0, o.1)
 
 -- and so does the one that holds
-pub row_listed : (past sufficient : Bool) (showing : Showing) (row : Row) → rows_for past sufficient showing ≡ row ∷ []
+pub row_listed : (past sufficient : Bool) (showing : Option Shown) (row : Row) → rows_for past sufficient showing ≡ row ∷ []
     → (row ∈ rows) × (holds_for past sufficient showing row ≡ true)
 unfolding rows_for
 row_listed past sufficient showing row e =

@@ -1,9 +1,8 @@
 -- Bar and mode as they were written before F-4, kept for the statement that the rows give the same (Claims).
-use Rattle.std.specs.Prelude.{ℕ, Bool, cond}
+use Rattle.std.specs.Prelude.{ℕ, Bool, cond, Option, Some, None}
 use Rattle.curve.specs.declared.Interval.{Interval}
 use Rattle.curve.specs.declared.Shown.{Shown}
 use Rattle.colours.specs.Numbers.{bar_number, mode_number}
-use Rattle.colours.specs.declared.Showing.{Showing}
 use Rattle.colours.specs.declared.Bar.{Bar}
 use Rattle.colours.specs.declared.Mode.{Mode}
 
@@ -36,10 +35,10 @@ mode_of over insufficient Shown.Ab = Mode.Indication
 mode_of over insufficient (Shown.Computed interval) = computed_mode over insufficient interval
 
 -- the two bytes: "No curve: bar and mode 0"
-abbrev pub bar_before : Showing → ℕ
-bar_before Showing.NoCurve = 0
-bar_before (Showing.Curve shown) = bar_number (bar_of shown)
+abbrev pub bar_before : Option Shown → ℕ
+bar_before None = 0
+bar_before (Some shown) = bar_number (bar_of shown)
 
-abbrev pub mode_before : Bool → Bool → Showing → ℕ
-mode_before over insufficient Showing.NoCurve = 0
-mode_before over insufficient (Showing.Curve shown) = mode_number (mode_of over insufficient shown)
+abbrev pub mode_before : Bool → Bool → Option Shown → ℕ
+mode_before over insufficient None = 0
+mode_before over insufficient (Some shown) = mode_number (mode_of over insufficient shown)

@@ -1,14 +1,14 @@
 -- 01's numbers of what is shown, of bars and of modes (01, "Report").
-use Rattle.std.specs.Prelude.{ℕ}
+use Rattle.std.specs.Prelude.{ℕ, Option, Some, None}
 use Rattle.interval.specs.Intervals.{shown_number}
-use Rattle.colours.specs.declared.Showing.{Showing}
 use Rattle.colours.specs.declared.Bar.{Bar}
 use Rattle.colours.specs.declared.Mode.{Mode}
+use Rattle.curve.specs.declared.Shown.{Shown}
 
 -- "interval (0 none, 1 A, 2 Ab, 3 Bf, 4 B, 5 C, 6 D, 7 E, 8 F)"
-abbrev pub showing_number : Showing → ℕ
-showing_number Showing.NoCurve = 0
-showing_number (Showing.Curve shown) = shown_number shown
+abbrev pub showing_number : Option Shown → ℕ
+showing_number None = 0
+showing_number (Some shown) = shown_number shown
 
 -- "Bars (001, table 4.8-5): A none, Bf light grey 1, others yellow 2"
 abbrev pub bar_number : Bar → ℕ

@@ -7,23 +7,9 @@
 mod numbers;
 mod rows;
 
-pub use numbers::{bar_number, mode_number, showing_number};
+use curve::Shown;
+pub use numbers::showing_number;
 pub use rows::{ROWS, row_of, table};
-
-// What a report shows: no curve, or a curve in this interval.
-#[derive(Clone, Copy)]
-pub enum Showing {
-    NoCurve,
-    Curve(curve::Shown),
-}
-
-// What a row asks of a condition: nothing, that it holds, or that it does not.
-#[derive(Clone, Copy)]
-pub enum Condition {
-    Either,
-    Yes,
-    No,
-}
 
 // The bars: the table's column "Colour of the MAX SPEED BAR".
 #[derive(Clone, Copy)]
@@ -43,13 +29,13 @@ pub enum Mode {
     Intervention,
 }
 
-// A row: what it holds for, and its bar and mode. `past` is whether the permitted boundary is reached,
-// `sufficient` whether the drop is.
+// A row: what it holds for, and its bar and mode. `showing` is the interval in which a curve is shown; None: no
+// curve. `past` is whether the permitted boundary is reached, `sufficient` whether the drop is; None: either.
 #[derive(Clone, Copy)]
 pub struct Row {
-    pub showing: Showing,
-    pub past: Condition,
-    pub sufficient: Condition,
+    pub showing: Option<Shown>,
+    pub past: Option<bool>,
+    pub sufficient: Option<bool>,
     pub bar: Bar,
     pub mode: Mode,
 }

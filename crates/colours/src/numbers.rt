@@ -2,35 +2,41 @@
 ghost use Rattle.std.specs.Prelude.{◌≡◌};
 ghost use Rattle.colours.specs.Numbers.{showing_number, bar_number, mode_number};
 
-use crate::{Bar, Mode, Showing};
+use crate::{Bar, Mode};
+use curve::Shown;
 
-pub fn showing_number(showing: Showing) -> u8
+// A function, since Option and u8 are both std's and an impl of From would have to stand there.
+pub fn showing_number(showing: Option<Shown>) -> u8
     ensures { result ≡ showing_number showing }
 {
     match showing {
-        Showing::NoCurve => 0,
-        Showing::Curve(shown) => interval::shown_number(shown),
+        None => 0,
+        Some(shown) => interval::shown_number(shown),
     }
 }
 
-pub fn bar_number(bar: Bar) -> u8
-    ensures { result ≡ bar_number bar }
-{
-    match bar {
-        Bar::Empty => 0,
-        Bar::LightGrey => 1,
-        Bar::Yellow => 2,
+impl From<Bar> for u8 {
+    ghost from_gives = { λ bar number. number ≡ bar_number bar };
+
+    fn from(bar: Bar) -> u8 {
+        match bar {
+            Bar::Empty => 0,
+            Bar::LightGrey => 1,
+            Bar::Yellow => 2,
+        }
     }
 }
 
-pub fn mode_number(mode: Mode) -> u8
-    ensures { result ≡ mode_number mode }
-{
-    match mode {
-        Mode::Normal => 0,
-        Mode::PreIndication => 1,
-        Mode::Indication => 2,
-        Mode::Warning => 3,
-        Mode::Intervention => 4,
+impl From<Mode> for u8 {
+    ghost from_gives = { λ mode number. number ≡ mode_number mode };
+
+    fn from(mode: Mode) -> u8 {
+        match mode {
+            Mode::Normal => 0,
+            Mode::PreIndication => 1,
+            Mode::Indication => 2,
+            Mode::Warning => 3,
+            Mode::Intervention => 4,
+        }
     }
 }

@@ -1,9 +1,8 @@
 // The rows, and the one that holds.
 ghost use Rattle.std.specs.Prelude.{◌≡◌};
-ghost use Rattle.colours.specs.Rows.{rows, is_met, holds_for, passing, first_of, row_of};
+ghost use Rattle.colours.specs.Rows.{rows, is_met, holds_for, row_of};
 
-use crate::numbers::showing_number;
-use crate::{Bar, Condition, Mode, Row, Showing};
+use crate::{Bar, Mode, Row};
 use curve::{Interval, Shown};
 
 // How many rows there are.
@@ -11,134 +10,110 @@ pub const ROWS: usize = 11;
 
 // The row for no curve (01).
 const NO_CURVE: Row = Row {
-    showing: Showing::NoCurve,
-    past: Condition::Either,
-    sufficient: Condition::Either,
+    showing: None,
+    past: None,
+    sufficient: None,
     bar: Bar::Empty,
     mode: Mode::Normal,
 };
 
-// Table 4.8-5 of 001, row by row, after the one for no curve.
+// Table 4.8-5 of 001, row by row, after the one for no curve. No heap: it is an array of fixed size.
 const TABLE: [Row; ROWS] = [
     // no curve
     NO_CURVE,
     // a) A
     Row {
-        showing: Showing::Curve(Shown::Computed(Interval::A)),
-        past: Condition::Either,
-        sufficient: Condition::Either,
+        showing: Some(Shown::Computed(Interval::A)),
+        past: None,
+        sufficient: None,
         bar: Bar::Empty,
         mode: Mode::Normal,
     },
     // b) Bf
     Row {
-        showing: Showing::Curve(Shown::Computed(Interval::Bf)),
-        past: Condition::Either,
-        sufficient: Condition::Either,
+        showing: Some(Shown::Computed(Interval::Bf)),
+        past: None,
+        sufficient: None,
         bar: Bar::LightGrey,
         mode: Mode::PreIndication,
     },
     // c) Ab
     Row {
-        showing: Showing::Curve(Shown::Ab),
-        past: Condition::Either,
-        sufficient: Condition::Either,
+        showing: Some(Shown::Ab),
+        past: None,
+        sufficient: None,
         bar: Bar::Yellow,
         mode: Mode::Indication,
     },
     // c) B, before passing the Permitted curve
     Row {
-        showing: Showing::Curve(Shown::Computed(Interval::B)),
-        past: Condition::No,
-        sufficient: Condition::Either,
+        showing: Some(Shown::Computed(Interval::B)),
+        past: Some(false),
+        sufficient: None,
         bar: Bar::Yellow,
         mode: Mode::Indication,
     },
     // d) B, after passing the Permitted curve
     Row {
-        showing: Showing::Curve(Shown::Computed(Interval::B)),
-        past: Condition::Yes,
-        sufficient: Condition::Either,
+        showing: Some(Shown::Computed(Interval::B)),
+        past: Some(true),
+        sufficient: None,
         bar: Bar::Yellow,
         mode: Mode::Warning,
     },
     // e) C
     Row {
-        showing: Showing::Curve(Shown::Computed(Interval::C)),
-        past: Condition::Either,
-        sufficient: Condition::Either,
+        showing: Some(Shown::Computed(Interval::C)),
+        past: None,
+        sufficient: None,
         bar: Bar::Yellow,
         mode: Mode::Warning,
     },
     // f) D, before passing the Conditional braking curve
     Row {
-        showing: Showing::Curve(Shown::Computed(Interval::D)),
-        past: Condition::Either,
-        sufficient: Condition::Yes,
+        showing: Some(Shown::Computed(Interval::D)),
+        past: None,
+        sufficient: Some(true),
         bar: Bar::Yellow,
         mode: Mode::Warning,
     },
     // g) D, after passing the Conditional braking curve
     Row {
-        showing: Showing::Curve(Shown::Computed(Interval::D)),
-        past: Condition::Either,
-        sufficient: Condition::No,
+        showing: Some(Shown::Computed(Interval::D)),
+        past: None,
+        sufficient: Some(false),
         bar: Bar::Yellow,
         mode: Mode::Intervention,
     },
     // h) E
     Row {
-        showing: Showing::Curve(Shown::Computed(Interval::E)),
-        past: Condition::Either,
-        sufficient: Condition::Either,
+        showing: Some(Shown::Computed(Interval::E)),
+        past: None,
+        sufficient: None,
         bar: Bar::Yellow,
         mode: Mode::Intervention,
     },
     // i) F
     Row {
-        showing: Showing::Curve(Shown::Computed(Interval::F)),
-        past: Condition::Either,
-        sufficient: Condition::Either,
+        showing: Some(Shown::Computed(Interval::F)),
+        past: None,
+        sufficient: None,
         bar: Bar::Yellow,
         mode: Mode::Intervention,
     },
 ];
 
-fn is_met(condition: Condition, holds: bool) -> bool
+fn is_met(condition: Option<bool>, holds: bool) -> bool
     ensures { result ≡ is_met condition holds }
 {
-    match condition {
-        Condition::Either => true,
-        Condition::Yes => holds,
-        Condition::No => !holds,
-    }
+    condition.is_none_or(|wanted| holds == wanted)
 }
 
 // Whether a row holds for what is shown, past permitted or not, drop sufficient or not.
-fn holds_for(past: bool, sufficient: bool, showing: Showing, row: Row) -> bool
+fn holds_for(past: bool, sufficient: bool, showing: Option<Shown>, row: Row) -> bool
     ensures { result ≡ holds_for past sufficient showing row }
 {
-    let wanted = row.showing;
-    let asked = row.past;
-    let also = row.sufficient;
-    (showing_number(showing) == showing_number(wanted))
-        & is_met(asked, past)
-        & is_met(also, sufficient)
-}
-
-// The first of some rows that holds, and that for no curve where none does.
-fn first_row(past: bool, sufficient: bool, showing: Showing, table: [Row; ROWS]) -> Row
-    ensures { result ≡ first_of (passing (holds_for past sufficient showing) table) }
-{
-    let mut i = 0;
-    while i < ROWS {
-        let row = table[i];
-        if holds_for(past, sufficient, showing, row) {
-            return row;
-        }
-        i += 1;
-    }
-    NO_CURVE
+    (showing == row.showing) & is_met(row.past, past) & is_met(row.sufficient, sufficient)
 }
 
 // The table, which is the list of the definition.
@@ -148,9 +123,13 @@ pub fn table() -> [Row; ROWS]
     TABLE
 }
 
-// The row that holds.
-pub fn row_of(past: bool, sufficient: bool, showing: Showing) -> Row
+// The first row that holds, and that for no curve where none does.
+pub fn row_of(past: bool, sufficient: bool, showing: Option<Shown>) -> Row
     ensures { result ≡ row_of past sufficient showing }
 {
-    first_row(past, sufficient, showing, table())
+    let rows = table();
+    rows.iter()
+        .find(|row| holds_for(past, sufficient, showing, **row))
+        .copied()
+        .unwrap_or(NO_CURVE)
 }

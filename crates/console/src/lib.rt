@@ -1,7 +1,7 @@
 // Reading until a buffer is full and writing all of one, as the programs do.
 #![tactic(auto)]
 
-ghost use Rattle.std.specs.Prelude.{◌<◌, length, take, IfOk, OnOk, OnErr};
+ghost use Rattle.std.specs.Prelude.{◌≡◌, ◌^◌, ◌<◌, length, take, None, IfOk, IfSome, OnOk, OnErr};
 ghost use Rattle.std.specs.Io.{ReadsAtMost};
 ghost use Rattle.std.specs.Io.KnownBytes.{Appends, Consumes, IsAtEnd};
 ghost use Rattle.console.specs.Bytes.{AppendsFront};
@@ -16,6 +16,7 @@ pub fn read_full<R: Read>(input: &mut R, buffer: &mut [u8]) -> io::Result<usize>
     ensures bytes { IfOk result (λ n. Consumes (R.remaining input.old) (R.remaining input.new) (take n buffer.new)) }
     ensures end { IfOk result (λ n. n < length buffer.new → IsAtEnd (R.remaining input.new)) }
 {
+    // The library's `read_exact` doesn't tell how many bytes came before the input ended.
     let mut n = 0;
     while n < buffer.len() {
         let got = input.read(&mut buffer[n..])?;
@@ -27,11 +28,25 @@ pub fn read_full<R: Read>(input: &mut R, buffer: &mut [u8]) -> io::Result<usize>
     Ok(n)
 }
 
+/// Reads a record of so many bytes, or none where the input ends before it is whole.
+pub fn read_record<const N: usize, R: Read>(input: &mut R) -> io::Result<Option<[u8; N]>>
+    requires { N < 2 ^ 63 }
+    ensures whole { IfOk result (λ r. IfSome r (λ bytes. Consumes (R.remaining input.old) (R.remaining input.new) bytes)) }
+    ensures end { IfOk result (λ r. r ≡ None → IsAtEnd (R.remaining input.new)) }
+{
+    let mut record = [0u8; N];
+    if read_full(input, &mut record)? < N {
+        return Ok(None);
+    }
+    Ok(Some(record))
+}
+
 /// Writes all the bytes. Where a write fails or takes none, a beginning of them is out, and no more.
 pub fn write_all<W: Write>(output: &mut W, bytes: &[u8]) -> io::Result<()>
     ensures ok { OnOk result (Appends (W.contents output.old) (W.contents output.new) bytes.now) }
     ensures err { OnErr result (AppendsFront (W.contents output.old) (W.contents output.new) bytes.now) }
 {
+    // The library's `write_all` doesn't say what is out after an error, as `err` does.
     let mut done = 0;
     while done < bytes.len() {
         let n = output.write(&bytes[done..])?;

@@ -1,8 +1,8 @@
 -- What holds of every curve, for any lead: statements, proved in proofs/.
-use Rattle.std.specs.Prelude.{◌≡◌, ℕ, suc, ◌+◌, ◌*◌, ◌≤◌, ◌<◌, true, false, ◌⊎◌}
+use Rattle.std.specs.Prelude.{◌≡◌, ℕ, suc, ◌+◌, ◌*◌, ◌≤◌, ◌<◌, true, false, ◌⊎◌, is_none}
 use Rattle.curve.specs.Deceleration.{deceleration_of}
 use Rattle.curve.specs.Boundary.{is_reached, is_reached_f, is_reached_at_kmh}
-use Rattle.curve.specs.Ground.{moved_by, never, reach_of, reach_of_f}
+use Rattle.curve.specs.Ground.{moved_by, never, reach_of, reach_of_f, left_of}
 use Rattle.curve.specs.Lead.{leads_of}
 use Rattle.curve.specs.declared.Times.{Times}
 use Rattle.curve.specs.declared.Curve.{Curve}
@@ -105,20 +105,20 @@ StaysFor Same distance n = ChangesAfter Same distance n ⊎ NeverChanges Same n
 abbrev pub ReachedAsBefore : Type 0
 ReachedAsBefore =
     (curve : Curve) (level margin v T : ℕ)
-    → ((reach_of curve level v T).reached ≡ is_reached curve level v T)
-    × ((reach_of_f curve level margin v).reached ≡ is_reached_f curve level margin v)
+    → (is_none (reach_of curve level v T) ≡ is_reached curve level v T)
+    × (is_none (reach_of_f curve level margin v) ≡ is_reached_f curve level margin v)
 
 -- the other part: for how far a boundary is not reached; 0 where it is
 abbrev pub GroundLeftIsTold : Type 0
 GroundLeftIsTold =
     (curve : Curve) (level v T : ℕ)
-    → (is_reached curve level v T ≡ true → (reach_of curve level v T).left ≡ 0)
+    → (is_reached curve level v T ≡ true → left_of (reach_of curve level v T) ≡ 0)
     × (is_reached curve level v T ≡ false
-    → StaysFor (λ m. is_reached (moved_by curve m) level v T ≡ false) curve.distance (reach_of curve level v T).left)
+    → StaysFor (λ m. is_reached (moved_by curve m) level v T ≡ false) curve.distance (left_of (reach_of curve level v T)))
 
 abbrev pub GroundLeftToFIsTold : Type 0
 GroundLeftToFIsTold =
     (curve : Curve) (level margin v : ℕ)
-    → (is_reached_f curve level margin v ≡ true → (reach_of_f curve level margin v).left ≡ 0)
+    → (is_reached_f curve level margin v ≡ true → left_of (reach_of_f curve level margin v) ≡ 0)
     × (is_reached_f curve level margin v ≡ false
-    → StaysFor (λ m. is_reached_f (moved_by curve m) level margin v ≡ false) curve.distance (reach_of_f curve level margin v).left)
+    → StaysFor (λ m. is_reached_f (moved_by curve m) level margin v ≡ false) curve.distance (left_of (reach_of_f curve level margin v)))

@@ -1,8 +1,7 @@
 -- The ground left to a curve (01, "Curves"), and to a boundary (02, F-1).
-use Rattle.std.specs.Prelude.{ℕ, zero, suc, ◌-◌, Bool, cond}
+use Rattle.std.specs.Prelude.{ℕ, zero, suc, ◌-◌, Bool, cond, Option, None, Some, unwrap_or}
 use Rattle.curve.specs.Boundary.{is_reached, is_reached_f}
 use Rattle.curve.specs.declared.Curve.{Curve}
-use Rattle.curve.specs.declared.Reach.{Reach}
 
 -- "d falls by the ground moved, never below 0"
 abbrev pub moved_by : Curve → ℕ → Curve
@@ -31,16 +30,16 @@ unfoldable pub most_before : (ℕ → Bool) → ℕ → ℕ
 most_before test distance = cond (test distance) (largest_failing test distance) never
 
 -- "The boundary rule shall tell, besides reached or not, the most whole centimetres the train can still cover at its present speed":
--- here, with the boundary not reached; 0 where it is
-unfoldable pub reach_of : Curve → ℕ → ℕ → ℕ → Reach
-reach_of curve level v T = record {
-  reached = is_reached curve level v T;
-  left = most_before (λ n. is_reached (moved_by curve n) level v T) curve.distance;
-}
+-- here, with the boundary not reached; `None`, or 0, where it is
+unfoldable pub reach_of : Curve → ℕ → ℕ → ℕ → Option ℕ
+reach_of curve level v T =
+    cond (is_reached curve level v T) None (Some (most_before (λ n. is_reached (moved_by curve n) level v T) curve.distance))
 
 -- F's
-unfoldable pub reach_of_f : Curve → ℕ → ℕ → ℕ → Reach
-reach_of_f curve level margin v = record {
-  reached = is_reached_f curve level margin v;
-  left = most_before (λ n. is_reached_f (moved_by curve n) level margin v) curve.distance;
-}
+unfoldable pub reach_of_f : Curve → ℕ → ℕ → ℕ → Option ℕ
+reach_of_f curve level margin v =
+    cond (is_reached_f curve level margin v) None (Some (most_before (λ n. is_reached_f (moved_by curve n) level margin v) curve.distance))
+
+-- the centimetres of it
+abbrev pub left_of : Option ℕ → ℕ
+left_of reach = unwrap_or reach 0

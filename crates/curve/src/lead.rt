@@ -4,6 +4,7 @@ ghost use Rattle.curve.specs.Lead.{leads_of};
 
 use crate::{Leads, Times};
 
+#[tactic(auto, unfolding(crate::specs::Lead::leads_of))]
 pub fn leads_of(times: Times) -> Leads
     ensures { result ≡ leads_of times }
 {

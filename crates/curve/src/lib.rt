@@ -9,28 +9,32 @@ mod deceleration;
 mod free;
 mod lead;
 mod moved;
+mod rule;
 
-pub use boundary::{NEVER, f_reach_of, f_reached, reach_of, reached, reached_at_kmh};
+pub use boundary::{f_reach_of, f_reached, reach_of, reached, reached_at_kmh};
 pub use deceleration::{deceleration_of, gradient_from, level_of};
 pub use free::free_curve;
 pub use lead::leads_of;
 pub use moved::moved_by;
+pub use rule::NEVER;
 
 // The kinds of a curve: 0 speed target, 1 Expect Stop.
-#[derive(Clone, Copy)]
+#[derive(Clone, Copy, PartialEq, Eq, Default)]
 pub enum Kind {
+    #[default]
     SpeedTarget,
     ExpectStop,
 }
 
-#[derive(Clone, Copy)]
+#[derive(Clone, Copy, PartialEq, Eq, Default)]
 pub enum Direction {
+    #[default]
     Up,
     Down,
 }
 
 // A gradient in ‰.
-#[derive(Clone, Copy)]
+#[derive(Clone, Copy, Default)]
 pub struct Gradient {
     pub direction: Direction,
     pub size: u8,
@@ -38,7 +42,7 @@ pub struct Gradient {
 
 // A curve, or a place that holds none. `distance` is the remaining d, `speed` the target or the
 // release speed, `past` whether it was once in B or later.
-#[derive(Clone, Copy)]
+#[derive(Clone, Copy, Default)]
 pub struct Curve {
     pub distance: u32,
     pub speed: u16,
@@ -69,14 +73,6 @@ pub struct Leads {
     pub bf: u16,
 }
 
-// What the boundary rule tells: whether the boundary is reached, and how many cm can still be covered
-// with it not reached (0 where it is, `NEVER` where it is not down to distance 0).
-#[derive(Clone, Copy)]
-pub struct Reach {
-    pub reached: bool,
-    pub left: u32,
-}
-
 // What the train brings to every curve: deceleration on level track, leads, F margin in km/h.
 #[derive(Clone, Copy)]
 pub struct Braking {
@@ -85,20 +81,20 @@ pub struct Braking {
     pub margin: u8,
 }
 
-// The computed intervals.
-#[derive(Clone, Copy)]
+// The computed intervals, with their numbers in a report.
+#[derive(Clone, Copy, PartialEq, Eq, PartialOrd, Ord)]
 pub enum Interval {
-    A,
-    Bf,
-    B,
-    C,
-    D,
-    E,
-    F,
+    A = 1,
+    Bf = 3,
+    B = 4,
+    C = 5,
+    D = 6,
+    E = 7,
+    F = 8,
 }
 
 // The intervals as they are shown.
-#[derive(Clone, Copy)]
+#[derive(Clone, Copy, PartialEq, Eq)]
 pub enum Shown {
     Ab,
     Computed(Interval),

@@ -3,13 +3,13 @@ ghost use Rattle.std.specs.Prelude.{◌≡◌};
 ghost use Rattle.curve.specs.Ground.{moved_by};
 
 use crate::Curve;
-use crate::deceleration::less;
 
 // A curve after so many cm moved.
 pub fn moved_by(curve: Curve, moved: u16) -> Curve
     ensures { result ≡ moved_by curve moved }
 {
-    let mut next = curve;
-    next.distance = less(curve.distance, moved as u32);
-    next
+    Curve {
+        distance: curve.distance.saturating_sub(moved as u32),
+        ..curve
+    }
 }

@@ -2,50 +2,60 @@
 #![tactic(auto)]
 
 mod fields;
-mod text;
 
 use curve::{Braking, Curve, Interval, Judged, Kind, free_curve};
 use fields::{braking_of, curve_of, moved_of, place_of, speed_of};
 use places::{CURVES, PLACES};
 use std::io;
 use std::io::{Read, Write};
-use text::{put, put_flag, put_number};
 
-fn kind_number(kind: Kind) -> u64 {
+fn kind_number(kind: Kind) -> u8 {
     match kind {
         Kind::SpeedTarget => 0,
         Kind::ExpectStop => 1,
     }
 }
 
-fn put_curve(out: &mut impl Write, c: Curve) -> io::Result<()> {
-    put_number(out, b" kind ", kind_number(c.kind))?;
-    put_number(out, b" d ", c.distance as u64)?;
-    put_number(out, b" speed ", c.speed as u64)
+fn interval_name(interval: Interval) -> &'static str {
+    match interval {
+        Interval::A => "A",
+        Interval::Bf => "Bf",
+        Interval::B => "B",
+        Interval::C => "C",
+        Interval::D => "D",
+        Interval::E => "E",
+        Interval::F => "F",
+    }
 }
 
-fn put_interval(out: &mut impl Write, interval: Interval) -> io::Result<()> {
-    match interval {
-        Interval::A => put(out, b"A"),
-        Interval::Bf => put(out, b"Bf"),
-        Interval::B => put(out, b"B"),
-        Interval::C => put(out, b"C"),
-        Interval::D => put(out, b"D"),
-        Interval::E => put(out, b"E"),
-        Interval::F => put(out, b"F"),
-    }
+// A word that stands only where it holds.
+fn put_flag(out: &mut impl Write, name: &str, holds: bool) -> io::Result<()> {
+    if holds { write!(out, "{name}") } else { Ok(()) }
+}
+
+fn put_curve(out: &mut impl Write, c: Curve) -> io::Result<()> {
+    write!(
+        out,
+        " kind {} d {} speed {}",
+        kind_number(c.kind),
+        c.distance,
+        c.speed
+    )
 }
 
 // What a curve says, with its past in B noted.
 fn put_judged(out: &mut impl Write, c: Curve, j: Judged) -> io::Result<()> {
     let interval = j.interval;
     let shown = interval::shown_of(c.past, interval);
-    put(out, b": ")?;
-    put_interval(out, interval)?;
-    put_number(out, b" shown ", interval::shown_number(shown) as u64)?;
-    put_number(out, b" permitted ", j.permitted as u64)?;
-    put_flag(out, b" brakes", j.brakes)?;
-    put_flag(out, b" past", c.past)
+    write!(
+        out,
+        ": {} shown {} permitted {}",
+        interval_name(interval),
+        interval::shown_number(shown),
+        j.permitted
+    )?;
+    put_flag(out, " brakes", j.brakes)?;
+    put_flag(out, " past", c.past)
 }
 
 // Whether the permitted boundary is reached at v.
@@ -61,13 +71,11 @@ fn judge_one(out: &mut impl Write, r: &[u8]) -> io::Result<()> {
     let c = curve::moved_by(curve_of(r, true), moved_of(r));
     let b = curve::deceleration_of(braking.level, c.gradient);
     let j = interval::judge(c, braking, v);
-    put_number(out, b"v ", v as u64)?;
-    put_number(out, b" b ", b as u64)?;
+    write!(out, "v {v} b {b}")?;
     put_curve(out, c)?;
     put_judged(out, interval::noted(c, j.interval), j)?;
-    put_flag(out, b" over", is_over(c, braking, v))?;
-    put_number(out, b" left ", interval::to_change(c, braking, v) as u64)?;
-    put(out, b"\n")
+    put_flag(out, " over", is_over(c, braking, v))?;
+    writeln!(out, " left {}", interval::to_change(c, braking, v))
 }
 
 // Puts the record's curve into its place; a place from 16 on is none.
@@ -83,34 +91,23 @@ fn put_in_place(
     if at < PLACES {
         next[at] = c;
     }
-    put_number(out, b"place ", at as u64)?;
+    write!(out, "place {at}")?;
     put_curve(out, c)?;
-    put_flag(out, b" freed", !held)?;
-    put(out, b"\n")?;
+    put_flag(out, " freed", !held)?;
+    writeln!(out)?;
     Ok(next)
-}
-
-fn put_any(
-    out: &mut impl Write,
-    name: &[u8],
-    interval: Interval,
-    judged: [Judged; CURVES],
-) -> io::Result<()> {
-    put(out, name)?;
-    if places::any_brakes(interval, judged) {
-        put(out, b"1")
-    } else {
-        put(out, b"0")
-    }
 }
 
 // What all places say together.
 fn put_all(out: &mut impl Write, v: u16, judged: [Judged; CURVES]) -> io::Result<()> {
-    put_number(out, b"all v ", v as u64)?;
-    put_number(out, b": permitted ", places::least_permitted(judged) as u64)?;
-    put_any(out, b" D ", Interval::D, judged)?;
-    put_any(out, b" E ", Interval::E, judged)?;
-    put_any(out, b" F ", Interval::F, judged)
+    write!(
+        out,
+        "all v {v}: permitted {} D {} E {} F {}",
+        places::least_permitted(judged),
+        u8::from(places::any_brakes(Interval::D, judged)),
+        u8::from(places::any_brakes(Interval::E, judged)),
+        u8::from(places::any_brakes(Interval::F, judged))
+    )
 }
 
 // What one place says, of all that were moved, judged and noted.
@@ -120,7 +117,7 @@ fn put_place(
     noted: [Curve; PLACES],
     judged: [Judged; CURVES],
 ) -> io::Result<()> {
-    put_number(out, b" place ", at as u64)?;
+    write!(out, " place {at}")?;
     if at < PLACES {
         let c = noted[at];
         let j = judged[at];
@@ -129,17 +126,14 @@ fn put_place(
             return put_judged(out, c, j);
         }
     }
-    put(out, b" none")
+    write!(out, " none")
 }
 
 // The places, and behind them those of records, which hold none.
 fn with_more(curves: [Curve; PLACES]) -> [Curve; CURVES] {
     let none = free_curve();
     let mut all = [none; CURVES];
-    for i in 0..PLACES {
-        let c = curves[i];
-        all[i] = c;
-    }
+    all[..PLACES].copy_from_slice(&curves);
     all
 }
 
@@ -155,7 +149,7 @@ fn judge_places(
     let noted = places::note_all(moved, judged);
     put_all(out, v, judged)?;
     put_place(out, place_of(r), noted, judged)?;
-    put(out, b"\n")?;
+    writeln!(out)?;
     Ok(noted)
 }
 
@@ -178,10 +172,9 @@ fn turn(
     out: &mut impl Write,
     curves: [Curve; PLACES],
 ) -> io::Result<Option<[Curve; PLACES]>> {
-    let mut record = [0u8; 25];
-    if console::read_full(input, &mut record)? < 25 {
+    let Some(record) = console::read_record::<25, _>(input)? else {
         return Ok(None);
-    }
+    };
     let next = after(out, &record, curves)?;
     Ok(Some(next))
 }
@@ -197,10 +190,10 @@ fn main(rt: HostRuntime) -> io::Result<()> {
     let mut out = rt.stdout();
     let mut curves = no_curves();
     for _ in 0..u32::MAX {
-        match turn(&mut input, &mut out, curves)? {
-            Some(next) => curves = next,
-            None => break,
-        }
+        let Some(next) = turn(&mut input, &mut out, curves)? else {
+            break;
+        };
+        curves = next;
     }
     Ok(())
 }

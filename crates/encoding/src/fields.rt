@@ -3,7 +3,7 @@ ghost use Rattle.std.specs.Prelude.{◌≡◌};
 ghost use Rattle.rules.specs.Operands.{bit_of, within, feed_of, extra_of, train_of, train_in_range, start_in_range, reading_of, odometer_in_range, kind_of, speed_in_range, gradient_of, curve_from, curve_of, curve_in_range, new_curve_in_range, section_of, section_in_range, event_in, event_speed, event_speed_in_range, event_in_range, record_of, new_record_in_range, signal_in, route_in, signal_in_range, in_range};
 ghost use Rattle.records.specs.Numbers.{category_of, signal_of, route_of};
 
-use areas::{Event, event_of, is_event};
+use areas::{Event, event_of};
 use curve::{Curve, Gradient, Kind, Times};
 use pressure::Feed;
 use records::{Category, Condition, EtRecord, Route, Signal};
@@ -17,10 +17,11 @@ fn bit_of(n: u8, byte: u8) -> bool
     if n < 8 { (byte >> n) % 2 == 1 } else { false }
 }
 
+// Whether x is in a range, both ends included.
 fn within(least: u16, most: u16, x: u16) -> bool
     ensures { result ≡ within least most x }
 {
-    (least <= x) & (x <= most)
+    (least..=most).contains(&x)
 }
 
 // ---- 01 start
@@ -68,20 +69,19 @@ pub fn train_of(s: &[u8]) -> Train
 fn train_in_range(train: Train) -> bool
     ensures { result ≡ train_in_range train }
 {
-    let times = train.times;
     within(10, 300, train.speed)
         & within(10, 1000, train.length)
         & within(400, 2000, train.full)
         & within(400, train.full, train.soft)
-        & within(1, 100, times.brake as u16)
-        & (times.c <= 200)
-        & (times.permitted <= 200)
-        & (times.bf <= 200)
-        & within(1, 30, train.margin as u16)
-        & within(11, 30, train.emergency as u16)
-        & within(30, 150, train.sufficient as u16)
+        & within(1, 100, u16::from(train.times.brake))
+        & (train.times.c <= 200)
+        & (train.times.permitted <= 200)
+        & (train.times.bf <= 200)
+        & within(1, 30, u16::from(train.margin))
+        & within(11, 30, u16::from(train.emergency))
+        & within(30, 150, u16::from(train.sufficient))
         & within(150, 600, train.pressure)
-        & within(1, 100, train.check as u16)
+        & within(1, 100, u16::from(train.check))
 }
 
 fn start_in_range(s: &[u8]) -> bool
@@ -116,6 +116,7 @@ fn odometer_in_range(s: &[u8]) -> bool
 
 // ---- 20 curve
 
+// The kind of a byte 0 or 1: a range below refuses the others.
 fn kind_of(byte: u8) -> Kind
     ensures { result ≡ kind_of byte }
 {
@@ -131,7 +132,7 @@ fn speed_in_range(kind: Kind, speed: u16) -> bool
 {
     match kind {
         Kind::SpeedTarget => within(10, 300, speed),
-        Kind::ExpectStop => (speed == 10) | (speed == 40),
+        Kind::ExpectStop => matches!(speed, 10 | 40),
     }
 }
 
@@ -149,7 +150,7 @@ fn curve_from(kind: Kind, s: &[u8]) -> Curve
         held: true,
         id: byte_at(s, 0),
         kind,
-        distance: 100 * be16(s, 2) as u32,
+        distance: 100 * u32::from(be16(s, 2)),
         speed: be16(s, 4),
         gradient: gradient_of(byte_at(s, 6)),
         past: false,
@@ -165,12 +166,10 @@ pub fn curve_of(s: &[u8]) -> Curve
 fn curve_in_range(curve: Curve) -> bool
     ensures { result ≡ curve_in_range curve }
 {
-    let kind = curve.kind;
-    let gradient = curve.gradient;
     (curve.id <= 254)
         & (curve.distance <= 1000000)
-        & speed_in_range(kind, curve.speed)
-        & (gradient.size <= 30)
+        & speed_in_range(curve.kind, curve.speed)
+        & (curve.gradient.size <= 30)
 }
 
 fn new_curve_in_range(s: &[u8]) -> bool
@@ -217,7 +216,7 @@ pub fn event_speed(s: &[u8]) -> u16
 fn event_speed_in_range(event: Event, speed: u16) -> bool
     ensures { result ≡ event_speed_in_range event speed }
 {
-    if is_event(Event::GMD, event) {
+    if event == Event::GMD {
         within(10, 300, speed)
     } else {
         speed == 0
@@ -258,9 +257,7 @@ pub fn record_of(s: &[u8]) -> EtRecord
 fn new_record_in_range(s: &[u8]) -> bool
     ensures { result ≡ new_record_in_range s.now }
 {
-    let et = record_of(s);
-    let curve = et.curve;
-    (byte_at(s, 1) <= 3) & curve_in_range(curve)
+    (byte_at(s, 1) <= 3) & curve_in_range(record_of(s).curve)
 }
 
 fn signal_of(byte: u8) -> Signal

@@ -10,7 +10,7 @@ use lib.Dec.{eqb, ltb, lit<}
 use borrow.Author.Tests.{eq-eqb, ne_eqb, lt-ltb, le-ltb, ltb-true, ltb-false}
 use Rattle.curve.specs.Boundary.{is_reached, is_reached_f}
 use Rattle.interval.specs.Intervals.{last_reached, interval_of, rank_of}
-use Rattle.curve.specs.Ground.{moved_by, never, most_before, reach_of, reach_of_f}
+use Rattle.curve.specs.Ground.{moved_by, never, most_before, reach_of, reach_of_f, left_of}
 use Rattle.interval.specs.Changes.{is_changed, to_change}
 use Rattle.curve.specs.Claims.{StaysFor}
 use Rattle.interval.specs.Claims.{WeakerBraking, ChangeIsTold, NeverMeansNever}
@@ -22,7 +22,7 @@ use Rattle.curve.specs.declared.Interval.TheVariants.{A, Bf, B, C, D, E, F}
 use Rattle.curve.proofs.Largest.{Monotone}
 use Rattle.curve.proofs.Stricter.{longer_lead_is_reached, f_implies_e}
 use Rattle.interval.proofs.Later.{interval_is_not_earlier}
-use Rattle.curve.proofs.Reaching.{reached_on, f_reached_on}
+use Rattle.curve.proofs.Reaching.{reached_on, f_reached_on, left_is_told, left_to_f_is_told}
 use Rattle.curve.proofs.Ground.{most_same, further, moved_none, left_told}
 
 -- ---- another interval is a later one
@@ -318,22 +318,22 @@ module _ (curve : Curve) (braking : Braking) (v : ℕ) where
 
   -- the figure of a curve in an interval
   abbrev pub left_after : Interval → ℕ
-  left_after A = (reach_of curve level v (lead_after A leads)).left
-  left_after Bf = (reach_of curve level v (lead_after Bf leads)).left
-  left_after B = (reach_of curve level v (lead_after B leads)).left
-  left_after C = (reach_of curve level v (lead_after C leads)).left
-  left_after D = (reach_of curve level v (lead_after D leads)).left
-  left_after E = (reach_of_f curve level braking.margin v).left
+  left_after A = left_of (reach_of curve level v (lead_after A leads))
+  left_after Bf = left_of (reach_of curve level v (lead_after Bf leads))
+  left_after B = left_of (reach_of curve level v (lead_after B leads))
+  left_after C = left_of (reach_of curve level v (lead_after C leads))
+  left_after D = left_of (reach_of curve level v (lead_after D leads))
+  left_after E = left_of (reach_of_f curve level braking.margin v)
   left_after F = never
 
   decided : (i : Interval) → most_before (λ n. decides n i) curve.distance ≡ left_after i
-  unfolding reach_of reach_of_f most_before
-  decided A = refl
-  decided Bf = refl
-  decided B = refl
-  decided C = refl
-  decided D = refl
-  decided E = refl
+  unfolding most_before
+  decided A = sym (left_is_told curve level v (lead_after A leads))
+  decided Bf = sym (left_is_told curve level v (lead_after Bf leads))
+  decided B = sym (left_is_told curve level v (lead_after B leads))
+  decided C = sym (left_is_told curve level v (lead_after C leads))
+  decided D = sym (left_is_told curve level v (lead_after D leads))
+  decided E = sym (left_to_f_is_told curve level braking.margin v)
   decided F = refl
 
   pub change_left : (i : Interval) → interval_of curve braking v ≡ i → to_change curve braking v ≡ left_after i

@@ -7,7 +7,7 @@ use borrow.Author.Tests.{ltb-true}
 use Rattle.curve.specs.Deceleration.{deceleration_of}
 use Rattle.curve.specs.Boundary.{target_of, is_above, line_for, is_reached, is_reached_f}
 use Rattle.interval.specs.Intervals.{interval_of}
-use Rattle.curve.specs.Ground.{moved_by, never, most_before, reach_of, reach_of_f}
+use Rattle.curve.specs.Ground.{moved_by, never, most_before, reach_of, reach_of_f, left_of}
 use Rattle.interval.specs.Changes.{to_change}
 use Rattle.curve.specs.declared.Curve.{Curve}
 use Rattle.curve.specs.declared.Braking.{Braking}
@@ -15,6 +15,7 @@ use Rattle.curve.specs.declared.Interval.{Interval}
 use Rattle.curve.specs.declared.Interval.TheVariants.{A, Bf, B, C, D, E, F}
 use Rattle.curve.proofs.Stricter.{both, above_target}
 use Rattle.curve.proofs.Ground.{holds_on, left_none, ground_left, left_is}
+use Rattle.curve.proofs.Reaching.{left_is_told, left_to_f_is_told}
 use Rattle.interval.proofs.Changes.{lead_after, change_left}
 
 -- ---- the line
@@ -49,20 +50,21 @@ module _ (curve : Curve) (level u lead : ℕ) where
 abbrev pub lead_left : Curve → ℕ → ℕ → ℕ → ℕ
 lead_left curve level v T = cond (is_above (9 * v) curve) (line_left curve level (9 * v) (v * T)) never
 
-lead_left_lem : (curve : Curve) (level v T : ℕ) → (reach_of curve level v T).left ≡ lead_left curve level v T
-unfolding reach_of is_reached is_above
-lead_left_lem curve level v T = asked_left curve level (9 * v) (v * T) (is_above (9 * v) curve) (above_target curve (9 * v))
+lead_left_lem : (curve : Curve) (level v T : ℕ) → left_of (reach_of curve level v T) ≡ lead_left curve level v T
+unfolding is_reached is_above
+lead_left_lem curve level v T = left_is_told curve level v T ∙ asked_left curve level (9 * v) (v * T) (is_above (9 * v) curve) (above_target curve (9 * v))
 
 abbrev pub f_left : Curve → ℕ → ℕ → ℕ → ℕ
 f_left curve level margin v =
     cond (is_above (9 * v) curve && ltb (target_of curve) (9 * v - 250 * margin)) (line_left curve level (9 * v - 250 * margin) 0) never
 
-f_left_lem : (curve : Curve) (level margin v : ℕ) → (reach_of_f curve level margin v).left ≡ f_left curve level margin v
-unfolding reach_of_f is_reached_f is_above target_of
+f_left_lem : (curve : Curve) (level margin v : ℕ) → left_of (reach_of_f curve level margin v) ≡ f_left curve level margin v
+unfolding is_reached_f is_above target_of
 f_left_lem curve level margin v =
     let u = 9 * v - 250 * margin in
     let over = ltb (target_of curve) u in
-    asked_left curve level u 0 (is_above (9 * v) curve && over)
+    left_to_f_is_told curve level margin v
+    ∙ asked_left curve level u 0 (is_above (9 * v) curve && over)
     (λ e. ltb-true (target_of curve) u (both (is_above (9 * v) curve) over e).1)
 
 -- ---- a curve in an interval

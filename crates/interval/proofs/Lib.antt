@@ -3,3 +3,4 @@ pub mod Divided
 pub mod Figures
 pub mod Halving
 pub mod Later
+pub mod Order

@@ -46,8 +46,7 @@ fn put_report(bytes: &mut [u8], at: usize, report: [u8; REPORT_LENGTH])
 {
     bytes[at] = b' ';
     let mut next = at + 1;
-    for i in 0..REPORT_LENGTH {
-        let byte = report[i];
+    for byte in report {
         bytes[next] = digit(byte / 16);
         bytes[next + 1] = digit(byte % 16);
         next += 2;

@@ -2,11 +2,11 @@
 use Prim.Native.Nat.{ℕ}
 use mathlib.Core.Path.{◌≡◌, refl, sym, ap, ap₂, ◌∙◌}
 use mathlib.Core.Bool.{true}
-use mathlib.Core.Option.{none, some}
 use mathlib.Core.List.{List, [], ◌∷◌, ◌++◌, append-nil}
 use lib.ListN.{take}
-use Rattle.wire.specs.declared.form.Form.{Form}
-use Rattle.wire.specs.declared.split.Next.{Next}
+use Rattle.std.specs.Prelude.{Result, Ok, Err, ⊤, Option, None, Some}
+use Rattle.wire.specs.declared.form.FormError.{FormError}
+use Rattle.wire.specs.declared.split.RestError.{RestError}
 use Rattle.wire.specs.Form.{report_length, form_of, refusal_of, refusal_to}
 use Rattle.wire.specs.Split.{next_command, next_refusal, rest_refusal}
 use Rattle.wire.proofs.Commands.{form_number, next_number_lem}
@@ -28,15 +28,15 @@ use Rattle.output.specs.Streams.{lines, stream_of}
 use Rattle.output.proofs.Promises.{lines_from}
 
 -- the line of a portion that is refused by one of 1 to 4 is that number
-refused_by : (f : Form) (whole : Answer) (area : List ℕ) (r : ℕ) → refusal_of f ≡ some r → line_of (answer_for f whole) area ≡ decimal_of r ++ (line_feed ∷ [])
+refused_by : (f : Result ⊤ FormError) (whole : Answer) (area : List ℕ) (r : ℕ) → refusal_of f ≡ Some r → line_of (answer_for f whole) area ≡ decimal_of r ++ (line_feed ∷ [])
 unfolding refusal_of line_of decimal_of
-refused_by Form.WrongArea whole area r e = let n : 1 ≡ r = cc e in rw (sym n)
-refused_by Form.NoBytes whole area r e = let n : 2 ≡ r = cc e in rw (sym n)
-refused_by Form.NoCode whole area r e = let n : 3 ≡ r = cc e in rw (sym n)
-refused_by Form.WrongLength whole area r e = let n : 4 ≡ r = cc e in rw (sym n)
-refused_by Form.Whole whole area r e = absurd (never (cc))
+refused_by (Err FormError.WrongArea) whole area r e = let n : 1 ≡ r = cc e in rw (sym n)
+refused_by (Err FormError.NoBytes) whole area r e = let n : 2 ≡ r = cc e in rw (sym n)
+refused_by (Err FormError.NoCode) whole area r e = let n : 3 ≡ r = cc e in rw (sym n)
+refused_by (Err FormError.WrongLength) whole area r e = let n : 4 ≡ r = cc e in rw (sym n)
+refused_by (Ok passed) whole area r e = absurd (never (cc))
 
-refused_line : (stm : Stm) (p : List ℕ) (r : ℕ) → refusal_to p report_length ≡ some r → lines.text stm p ≡ decimal_of r ++ (line_feed ∷ [])
+refused_line : (stm : Stm) (p : List ℕ) (r : ℕ) → refusal_to p report_length ≡ Some r → lines.text stm p ≡ decimal_of r ++ (line_feed ∷ [])
 unfolding call_of answer_of
 refused_line stm p r e = refused_by (form_of p report_length) (whole_answer stm p) _ r (form_number p report_length ∙ e)
 
@@ -49,22 +49,22 @@ rest_last : (stm : Stm) (rest p : List ℕ) → portions_of rest ≡ p ∷ [] �
 unfolding text_by
 rest_last stm rest p e = ap (text_by lines stm) e ∙ append-nil (lines.text stm p)
 
-rest_text : (stm : Stm) (rest : List ℕ) (n : Next) → next_command rest ≡ n → (rest_refusal rest ≡ none → rest ≡ [])
+rest_text : (stm : Stm) (rest : List ℕ) (n : Result (Option ℕ) RestError) → next_command rest ≡ n → (rest_refusal rest ≡ None → rest ≡ [])
     → text_by lines stm (portions_of rest) ≡ end_line (rest_refusal rest)
 unfolding next_refusal
-rest_text stm rest Next.End e h =
-    let r : rest_refusal rest ≡ none = sym (next_number_lem rest) ∙ ap next_refusal e in
+rest_text stm rest (Ok None) e h =
+    let r : rest_refusal rest ≡ None = sym (next_number_lem rest) ∙ ap next_refusal e in
     ap (λ l. text_by lines stm (portions_of l)) (h r) ∙ rest_empty stm ∙ sym (ap end_line r)
-rest_text stm rest Next.NoCode e h =
-    let r : rest_refusal rest ≡ some 3 = sym (next_number_lem rest) ∙ ap next_refusal e in
+rest_text stm rest (Err RestError.NoCode) e h =
+    let r : rest_refusal rest ≡ Some 3 = sym (next_number_lem rest) ∙ ap next_refusal e in
     let (g, f) = no_code_ends true rest r in
     rest_last stm rest (take 1 rest) (ap (λ g. g.portions) g) ∙ refused_line stm (take 1 rest) 3 f ∙ sym (ap end_line r)
-rest_text stm rest Next.Short e h =
-    let r : rest_refusal rest ≡ some 4 = sym (next_number_lem rest) ∙ ap next_refusal e in
+rest_text stm rest (Err RestError.Short) e h =
+    let r : rest_refusal rest ≡ Some 4 = sym (next_number_lem rest) ∙ ap next_refusal e in
     let (w, g, f) = short_waits rest r in
     rest_last stm rest rest (ap (λ g. g.portions) g) ∙ refused_line stm rest 4 f ∙ sym (ap end_line r)
-rest_text stm rest (Next.Command n) e h =
-    let r : rest_refusal rest ≡ none = sym (next_number_lem rest) ∙ ap next_refusal e in
+rest_text stm rest (Ok (Some n)) e h =
+    let r : rest_refusal rest ≡ None = sym (next_number_lem rest) ∙ ap next_refusal e in
     ap (λ l. text_by lines stm (portions_of l)) (h r) ∙ rest_empty stm ∙ sym (ap end_line r)
 
 pub ends_as_said : EndsAsSaid

@@ -1,4 +1,3 @@
 pub mod Ends
 pub mod Example
-pub mod Handing
 pub mod Promises

@@ -1,25 +1,22 @@
 -- The promises of the stream program's output. Assumes nothing.
-use Prim.Native.Nat.{ℕ, suc, ◌/◌}
+use Prim.Native.Nat.{ℕ}
 use mathlib.Core.Path.{◌≡◌, refl, ap}
 use mathlib.Core.List.{List, [], ◌∷◌, map, flat_map}
 use native.Mathlib.Omega.{arith}
-use lib.ListN.{length, drop}
-use lib.Seq.{take-append_seam}
-use Rattle.wire.specs.Bytes.{placed}
-use Rattle.portions.specs.Portions.{given_of, left_of, portions_of}
+use Rattle.portions.specs.Portions.{portions_of}
 use Rattle.portions.specs.Reads.{text_by, turn_of}
-use Rattle.portions.proofs.Giving.{enough}
+use Rattle.portions.proofs.Giving.{all_has_room as portions_have_room}
+use Rattle.portions.proofs.Turns.{turn_is_handed as turn_handed}
 use Rattle.portions.proofs.Reading.{cut_anyhow, ended_anyhow, written_is_a_beginning}
 use Rattle.rules.specs.Commands.{fresh_stm}
 use Rattle.rules.specs.Runs.{moments, state_after, send}
 use Rattle.rules.specs.declared.Stm.{Stm}
 use Rattle.line.specs.Lines.{line_width}
 use Rattle.output.specs.Claims.{LinesOfMoments, WritesTheStream, WritesAtOnce, TurnIsHanded, AllHasRoom}
-use Rattle.output.specs.Streams.{line_at, lines, stream_of, handed_on, output_room}
+use Rattle.output.specs.Streams.{line_at, lines, stream_of, output_room}
 
 pub all_has_room : AllHasRoom
-unfolding given_of
-all_has_room all bytes h = enough (output_room / line_width) (suc (length bytes)) all bytes (omega arith) (omega arith)
+all_has_room all bytes h = portions_have_room line_width output_room all bytes (omega arith) (omega arith) h
 
 pub lines_from : (stm : Stm) (ps : List (List ℕ)) → text_by lines stm ps ≡ flat_map line_at (moments stm (map send ps))
 unfolding text_by flat_map moments
@@ -42,7 +39,4 @@ writes_at_once reads = (
 )
 
 pub turn_is_handed : TurnIsHanded
-unfolding turn_of handed_on placed left_of
-turn_is_handed s all bytes room =
-    let text = text_by lines s.state (given_of all bytes).portions in
-    rw (take-append_seam text (drop (length text) room))
+turn_is_handed s all bytes room = turn_handed lines s all bytes room

@@ -1,6 +1,5 @@
 -- What is promised of the stream program's output.
-use Rattle.std.specs.Prelude.{ℕ, ◌≤◌, ◌≡◌, Bool, false, cond, length, take, drop}
-use Rattle.std.proofs.Math.Option.{Option, none, some}
+use Rattle.std.specs.Prelude.{ℕ, ◌≤◌, ◌≡◌, Bool, false, cond, length, take, drop, Option, None, Some}
 use mathlib.Core.List.{List, [], ◌∷◌, ◌++◌, map, flat_map, flatten, Memᴰ}
 use Rattle.wire.specs.Bytes.{placed}
 use Rattle.wire.specs.Form.{report_length, refusal_to}
@@ -20,16 +19,16 @@ LinesOfMoments = (input : List ℕ) → stream_of input ≡ flat_map line_at (mo
 
 -- the line of a refusal of the rest that ends a stream, in 01's numbers
 abbrev pub end_line : Option ℕ → List ℕ
-end_line none = []
-end_line (some refusal) = decimal_of refusal ++ (line_feed ∷ [])
+end_line None = []
+end_line (Some refusal) = decimal_of refusal ++ (line_feed ∷ [])
 
 -- "refusal 3 or 4, or an empty rest, ends it": commands that pass refusals 1 to 4, and a rest that has none or is empty, give a line
 -- for each command and then the refusal of the rest, or no more
 abbrev pub EndsAsSaid : Type 0
 EndsAsSaid =
     (commands : List (List ℕ)) (rest : List ℕ)
-    → ((c : List ℕ) → Memᴰ c commands → refusal_to c report_length ≡ none)
-    → (rest_refusal rest ≡ none → rest ≡ [])
+    → ((c : List ℕ) → Memᴰ c commands → refusal_to c report_length ≡ None)
+    → (rest_refusal rest ≡ None → rest ≡ [])
     → stream_of (flatten commands ++ rest) ≡ flat_map line_at (moments fresh_stm (map send commands)) ++ end_line (rest_refusal rest)
 
 -- however the input is cut into reads, what is written for them, put together, is the output of the whole input
@@ -52,7 +51,7 @@ TurnIsHanded =
     (s : Standing Stm) (all : Bool) (bytes room : List ℕ)
     → let handed = handed_on s.state (given_of all bytes) in
     turn_of lines all bytes s ≡ record {
-      state = handed.stm;
+      state = handed.state;
       left = cond handed.ended [] (drop handed.used bytes);
       written = s.written ++ take handed.written (placed (text_by lines s.state (given_of all bytes).portions) room);
       ended = handed.ended;

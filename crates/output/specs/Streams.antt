@@ -1,14 +1,15 @@
 -- The output of the stream program for any input (01, after "Figures to check").
-use Rattle.std.specs.Prelude.{ℕ, ◌+◌, ◌*◌, ◌/◌, Bool, length}
-use mathlib.Core.List.{List, flatten}
+use Rattle.std.specs.Prelude.{ℕ, ◌+◌, ◌*◌, ◌/◌, Bool}
+use mathlib.Core.List.{List}
 use Rattle.wire.specs.Codes.{shortest}
 use Rattle.portions.specs.Portions.{Given, given_within, portions_of}
-use Rattle.portions.specs.Reads.{Writer, text_by, state_by, input_room}
+use Rattle.portions.specs.Reads.{Writer, text_by, input_room}
+use Rattle.portions.specs.Told.{handed_to}
+use Rattle.portions.specs.declared.telling.Handed.{Handed}
 use Rattle.rules.specs.Commands.{fresh_stm}
 use Rattle.rules.specs.Runs.{Moment, moment_of, state_after, send}
 use Rattle.rules.specs.declared.Stm.{Stm}
 use Rattle.line.specs.Lines.{line_of, line_width}
-use Rattle.output.specs.declared.Handed.{Handed}
 
 -- "prints, a line each, the answer and, if accepted or again, a space and the report"
 abbrev pub line_at : Moment → List ℕ
@@ -23,13 +24,8 @@ unfoldable pub stream_of : List ℕ → List ℕ
 stream_of input = text_by lines fresh_stm (portions_of input)
 
 -- what has come of portions that are handed to a unit: its state, the bytes used, those written, and whether the stream has ended
-unfoldable pub handed_on : Stm → Given → Handed
-handed_on stm given = record {
-  stm = state_by lines stm given.portions;
-  used = length (flatten given.portions);
-  written = length (text_by lines stm given.portions);
-  ended = given.ended;
-}
+abbrev pub handed_on : Stm → Given → Handed Stm
+handed_on stm given = handed_to lines stm given
 
 -- what is given of bytes where so many bytes of room are for the lines: as many portions as the longest lines have room for
 abbrev pub given_in : ℕ → Bool → List ℕ → Given

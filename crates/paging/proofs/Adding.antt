@@ -7,6 +7,7 @@ use native.Mathlib.Omega.{arith}
 use lib.ListN.{length, take, drop, length-append}
 use lib.Seq.{drop-drop, take_at, drop_at}
 use borrow.Author.Tests.{lt-ltb, le-ltb}
+use Rattle.std.specs.Prelude.{Some}
 use Rattle.wire.specs.Bytes.{placed}
 use Rattle.sheet.specs.declared.Sheet.{Sheet}
 use Rattle.sheet.specs.Columns.{Entry, line_for, header_of}
@@ -26,13 +27,13 @@ module _ (room : List ℕ) (s : Sheet) (e : Entry) where
     as_before d = rw (le-ltb (length room) added_width h, d)
 
     module _ (d : differs s.printed e.report ≡ true) where
-      pub on_page : s.line < page_lines → added_in (length room) s e ≡ added (line_for e) (sheet (printed_as e.report) s.page (s.line + 1))
+      pub on_page : s.line < page_lines → added_in (length room) s e ≡ added (line_for e) (sheet (Some (printed_as e.report)) s.page (s.line + 1))
       unfolding added_in added_for
       on_page l = rw (le-ltb (length room) added_width h, d, lt-ltb s.line page_lines l)
 
       module _ (l : page_lines ≤ s.line) where
         pub next_page : s.page < last_page
-            → added_in (length room) s e ≡ added (header_of (s.page + 1) ++ line_for e) (sheet (printed_as e.report) (s.page + 1) 2)
+            → added_in (length room) s e ≡ added (header_of (s.page + 1) ++ line_for e) (sheet (Some (printed_as e.report)) (s.page + 1) 2)
         unfolding added_in added_for
         next_page p = rw (le-ltb (length room) added_width h, d, le-ltb s.line page_lines l, lt-ltb s.page last_page p)
 

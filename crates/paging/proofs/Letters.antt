@@ -1,26 +1,31 @@
--- Letters of numbers that have no name. Assumes nothing.
-use Prim.Native.Nat.{ℕ, zero, suc, ◌+◌, ◌≤◌}
+-- The letters of numbers, looked up in tables that have the spaces too. Assumes nothing.
+use Prim.Native.Nat.{ℕ, zero, suc}
 use mathlib.Core.Path.{◌≡◌, refl}
-use mathlib.Core.List.{List, [], ◌∷◌}
-use native.Mathlib.Omega.{arith}
-use lib.ListN.{length, get_or-eq_default}
-use Rattle.wire.specs.Text.{space}
+use mathlib.Core.List.{[], ◌∷◌}
+use lib.ListN.{get_or}
+use Rattle.wire.specs.Text.{ascii, space}
 use Rattle.sheet.specs.Columns.{letters, state_names, interval_names}
 
-past_names : (names : List (List ℕ)) (n : ℕ) → length names ≤ n → letters names 2 n ≡ space ∷ space ∷ []
+pub state_lem : (n : ℕ) → get_or (ascii "DE" ∷ ascii "CS" ∷ ascii "HS" ∷ ascii "DA" ∷ ascii "FA" ∷ []) n (space ∷ space ∷ []) ≡ letters state_names 2 n
 unfolding letters
-past_names names n h = rw (get_or-eq_default names [] h)
+state_lem zero = refl
+state_lem (suc zero) = refl
+state_lem (suc (suc zero)) = refl
+state_lem (suc (suc (suc zero))) = refl
+state_lem (suc (suc (suc (suc zero)))) = refl
+state_lem (suc (suc (suc (suc (suc n))))) = refl
 
-above : (k n : ℕ) → k ≤ n → (n ≡ k → ⊥) → k + 1 ≤ n
-above k n h e = omega (arith, h, e)
-
-pub no_state : (n : ℕ) → (n ≡ 0 → ⊥) → (n ≡ 1 → ⊥) → (n ≡ 2 → ⊥) → (n ≡ 3 → ⊥) → (n ≡ 4 → ⊥) → letters state_names 2 n ≡ space ∷ space ∷ []
-no_state n a b c d e = past_names state_names n (above 4 n (above 3 n (above 2 n (above 1 n (above 0 n (omega arith) a) b) c) d) e)
-
-pub no_interval : (n : ℕ) → (n ≡ 1 → ⊥) → (n ≡ 2 → ⊥) → (n ≡ 3 → ⊥) → (n ≡ 4 → ⊥) → (n ≡ 5 → ⊥) → (n ≡ 6 → ⊥) → (n ≡ 7 → ⊥) → (n ≡ 8 → ⊥)
-    → letters interval_names 2 n ≡ space ∷ space ∷ []
+pub interval_lem : (n : ℕ)
+    → get_or (ascii "  " ∷ ascii "A " ∷ ascii "Ab" ∷ ascii "Bf" ∷ ascii "B " ∷ ascii "C " ∷ ascii "D " ∷ ascii "E " ∷ ascii "F " ∷ []) n (space ∷ space ∷ [])
+    ≡ letters interval_names 2 n
 unfolding letters
-no_interval zero a b c d e f g h = refl
-no_interval (suc n) a b c d e f g h =
-    past_names interval_names (suc n)
-    (above 8 _ (above 7 _ (above 6 _ (above 5 _ (above 4 _ (above 3 _ (above 2 _ (above 1 (suc n) (omega arith) a) b) c) d) e) f) g) h)
+interval_lem zero = refl
+interval_lem (suc zero) = refl
+interval_lem (suc (suc zero)) = refl
+interval_lem (suc (suc (suc zero))) = refl
+interval_lem (suc (suc (suc (suc zero)))) = refl
+interval_lem (suc (suc (suc (suc (suc zero))))) = refl
+interval_lem (suc (suc (suc (suc (suc (suc zero)))))) = refl
+interval_lem (suc (suc (suc (suc (suc (suc (suc zero))))))) = refl
+interval_lem (suc (suc (suc (suc (suc (suc (suc (suc zero)))))))) = refl
+interval_lem (suc (suc (suc (suc (suc (suc (suc (suc (suc n))))))))) = refl

@@ -5,10 +5,8 @@ use mathlib.Core.Bool.{cond}
 use mathlib.Core.List.{List, [], ◌∷◌, ◌++◌, append_assoc}
 use native.Mathlib.Omega.{arith}
 use lib.Dec.{eqb}
-use lib.ListN.{length, length-drop, take, drop, set, take-append-drop}
-use lib.Seq.{append_snoc, drop-cons, drop-drop, drop-set-lt, take-set-le, get_or-set_same, length-take-le, lt-length-set}
-use borrow.Author.Tests.{eq-eqb}
-use Rattle.wire.specs.Bytes.{copied}
+use lib.ListN.{length, take, drop, set, take-append-drop}
+use lib.Seq.{append_snoc, drop-cons, drop-drop, drop-set-lt, take-set-le, get_or-set_same, lt-length-set}
 use Rattle.wire.specs.Text.{digit_of}
 use Rattle.sheet.specs.Columns.{leading, numeral, in_columns}
 
@@ -51,13 +49,10 @@ all_put base fill first to rest before line g e same =
     let none : to + 1 - first ≡ 0 = omega arith in
     rw (none, e) (sym (take-append-drop (first - 1) line) ∙ ap (λ t. t ++ drop (first - 1) line) same)
 
--- ---- a line put into a room
+-- ---- a text put into a part of an area
 
-pub line_put : (at k : ℕ) (room line part : List ℕ) → at + k ≤ length room → length line ≡ k → part ≡ copied line (take (at + k - at) (drop at room))
-    → take at room ++ (part ++ drop (at + k - at) (drop at room)) ≡ take at room ++ line ++ drop (at + k) room
-unfolding copied
-line_put at k room line part h long e =
-    let wide : at + k - at ≡ k = omega arith in
-    let left = length-drop at room in
-    let same : length line ≡ length (take k (drop at room)) = long ∙ sym (length-take-le k (drop at room) (omega (arith, left, h))) in
-    rw (e, wide, eq-eqb (length line) (length (take k (drop at room))) same, drop-drop k at room) (sym (append_assoc (take at room) line (drop (at + k) room)))
+pub part_put : (from to : ℕ) (area text part : List ℕ) → from ≤ to → part ≡ text
+    → take from area ++ (part ++ drop (to - from) (drop from area)) ≡ take from area ++ text ++ drop to area
+part_put from to area text part h e =
+    let end : from + (to - from) ≡ to = omega arith in
+    rw (e, drop-drop (to - from) from area, end) (sym (append_assoc (take from area) text (drop to area)))

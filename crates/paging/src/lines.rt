@@ -1,6 +1,6 @@
 // The lines of the sheet: what stands in which columns, counted from 1.
-ghost use Rattle.std.specs.Prelude.{◌≡◌, cond, ◌+◌, ◌-◌, ◌%◌, ◌≤◌, eqb, length, take};
-ghost use Rattle.wire.specs.Text.{digit_of};
+ghost use Rattle.std.specs.Prelude.{◌≡◌, cond, [], ◌∷◌, ◌+◌, ◌-◌, ◌%◌, ◌≤◌, eqb, length, take, get_or};
+ghost use Rattle.wire.specs.Text.{digit_of, space};
 ghost use Rattle.sheet.specs.Columns.{width, entry, columns, numeral, letters, state_names, interval_names, blank_line, in_columns, filled_in, line_for, header_of};
 
 use wire::{REPORT_LENGTH, be16, byte_at, digit};
@@ -22,11 +22,7 @@ fn put_text(line: [u8; LINE], first: usize, last: usize, text: &[u8]) -> [u8; LI
     ensures { result ≡ in_columns first last text.now line }
 {
     let mut line = line;
-    let mut i = 0;
-    while i < text.len() {
-        line[first - 1 + i] = text[i];
-        i += 1;
-    }
+    line[first - 1..last].copy_from_slice(text);
     line
 }
 
@@ -56,42 +52,38 @@ fn put_number(
     let mut line = line;
     line[last - 1] = digit((n % base) as u8);
     let mut rest = n / base;
-    let mut to = last - 1;
-    while to >= first {
-        line[to - 1] = sign_of(rest, base, fill);
+    for at in (first - 1..last - 1).rev() {
+        line[at] = sign_of(rest, base, fill);
         rest /= base;
-        to -= 1;
     }
     line
+}
+
+// The letters of the states, by 01's numbers.
+const STATES: [[u8; 2]; 5] = [*b"DE", *b"CS", *b"HS", *b"DA", *b"FA"];
+
+// The letters of the intervals, by 01's numbers, blank for none.
+const INTERVALS: [[u8; 2]; 9] = [
+    *b"  ", *b"A ", *b"Ab", *b"Bf", *b"B ", *b"C ", *b"D ", *b"E ", *b"F ",
+];
+
+// The letters of a number, blank where it has none.
+fn letters_in(names: &[[u8; 2]], n: u8) -> [u8; 2]
+    ensures { result ≡ get_or names.now n (space ∷ space ∷ []) }
+{
+    names.get(n as usize).copied().unwrap_or(*b"  ")
 }
 
 fn state_letters(state: u8) -> [u8; 2]
     ensures { result ≡ letters state_names 2 state }
 {
-    match state {
-        0 => [b'D', b'E'],
-        1 => [b'C', b'S'],
-        2 => [b'H', b'S'],
-        3 => [b'D', b'A'],
-        4 => [b'F', b'A'],
-        _ => [b' ', b' '],
-    }
+    letters_in(&STATES, state)
 }
 
 fn interval_letters(interval: u8) -> [u8; 2]
     ensures { result ≡ letters interval_names 2 interval }
 {
-    match interval {
-        1 => [b'A', b' '],
-        2 => [b'A', b'b'],
-        3 => [b'B', b'f'],
-        4 => [b'B', b' '],
-        5 => [b'C', b' '],
-        6 => [b'D', b' '],
-        7 => [b'E', b' '],
-        8 => [b'F', b' '],
-        _ => [b' ', b' '],
-    }
+    letters_in(&INTERVALS, interval)
 }
 
 // The line of an accepted command up to its permitted speed.

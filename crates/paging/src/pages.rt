@@ -6,7 +6,7 @@ ghost use Rattle.sheet.specs.Pages.{differs, printed_as};
 ghost use Rattle.sheet.specs.Paging.{fresh_sheet, added_in, added_width};
 
 use crate::lines::{LINE, header_of, line_for};
-use sheet::{Printed, Sheet};
+use sheet::{Line, Sheet};
 use wire::{REPORT_LENGTH, be16, byte_at};
 
 // The lines of a page, its first among them.
@@ -30,34 +30,23 @@ pub fn fresh() -> Sheet
     ensures { result ≡ fresh_sheet }
 {
     Sheet {
-        printed: Printed::Nothing,
+        printed: None,
         page: 0,
         line: PAGE_LINES,
     }
 }
 
 // Order, permitted speed or state differs from the last line, or there is none.
-fn is_different(printed: Printed, report: [u8; REPORT_LENGTH]) -> bool
+fn is_different(printed: Option<Line>, report: [u8; REPORT_LENGTH]) -> bool
     ensures { result ≡ differs printed report }
 {
-    match printed {
-        Printed::Nothing => true,
-        Printed::Line {
-            order,
-            permitted,
-            state,
-        } => {
-            !((byte_at(&report, 1) == order)
-                & (be16(&report, 4) == permitted)
-                & (byte_at(&report, 0) == state))
-        }
-    }
+    Some(printed_as(report)) != printed
 }
 
-fn printed_as(report: [u8; REPORT_LENGTH]) -> Printed
+fn printed_as(report: [u8; REPORT_LENGTH]) -> Line
     ensures { result ≡ printed_as report }
 {
-    Printed::Line {
+    Line {
         order: byte_at(&report, 1),
         permitted: be16(&report, 4),
         state: byte_at(&report, 0),
@@ -69,7 +58,7 @@ fn put_line(line: [u8; LINE], room: &mut [u8], at: usize)
     requires { at + (width + 1) ≤ length room.old }
     ensures { room.new ≡ take at room.old ++ line ++ drop (at + (width + 1)) room.old }
 {
-    wire::copy_whole(&line, &mut room[at..at + LINE]);
+    room[at..at + LINE].copy_from_slice(&line);
 }
 
 // Prints the line of an accepted command where one is due, on this page or on the next with its first line, at the front of the
@@ -83,18 +72,17 @@ pub fn print(sheet: Sheet, number: u32, report: [u8; REPORT_LENGTH], room: &mut 
     if room.len() < ADDED {
         return Put { sheet, written: 0 };
     }
-    let last = sheet.printed;
-    if !is_different(last, report) {
+    if !is_different(sheet.printed, report) {
         return Put { sheet, written: 0 };
     }
-    let printed = printed_as(report);
+    let printed = Some(printed_as(report));
     if sheet.line < PAGE_LINES {
         put_line(line_for(number, report), room, 0);
         return Put {
             sheet: Sheet {
                 printed,
-                page: sheet.page,
                 line: sheet.line + 1,
+                ..sheet
             },
             written: LINE,
         };

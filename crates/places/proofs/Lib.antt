@@ -1,2 +1,4 @@
 pub mod Held
 pub mod Loops
+pub mod Least
+pub mod Arrays

@@ -1,5 +1,6 @@
 -- The places that hold curves (01, "Answers", refusal 13: 16 of them), each as it stands in its array.
-use Rattle.std.specs.Prelude.{ℕ, min, Bool, false, cond, ◌&&◌, ◌||◌, leb}
+use Rattle.std.specs.Prelude.{ℕ, min, Bool, false, cond, ◌&&◌, leb}
+use Rattle.std.specs.List.{list_any}
 use mathlib.Core.List.{List, [], ◌∷◌, map, zip_with}
 use Rattle.interval.specs.Intervals.{rank_of}
 use Rattle.curve.specs.Ground.{moved_by}
@@ -53,5 +54,4 @@ abbrev pub brakes_from : Interval → Judged → Bool
 brakes_from interval j = j.held && j.brakes && leb (rank_of interval) (rank_of j.interval)
 
 unfoldable pub any_brakes : Interval → List Judged → Bool
-any_brakes interval [] = false
-any_brakes interval (j ∷ js) = brakes_from interval j || any_brakes interval js
+any_brakes interval judged = list_any (brakes_from interval) judged

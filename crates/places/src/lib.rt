@@ -1,11 +1,11 @@
 // The places of curves: what is done to all of them, or asked of all.
 #![tactic(auto)]
 
-ghost use Rattle.std.specs.Prelude.{◌≡◌, min};
+ghost use Rattle.std.specs.Prelude.{◌≡◌};
 ghost use Rattle.places.specs.Places.{moved_here, moved_all, none_judged, judged_here, judged_all, noted_all, permitted_here, least_permitted, brakes_from, any_brakes};
 
 use curve::{Braking, Curve, Interval, Judged, moved_by};
-use interval::{TOP, judge, noted, rank_of};
+use interval::{TOP, judge, noted};
 
 // How many curves a unit holds.
 pub const PLACES: usize = 16;
@@ -24,14 +24,13 @@ fn moved_here(curve: Curve, moved: u16) -> Curve
     }
 }
 
-// Every curve after so many cm moved.
+// Every curve after so many cm moved. A loop in place is quicker than an array's `map`, which moves the elements out first.
 pub fn move_all(curves: [Curve; PLACES], moved: u16) -> [Curve; PLACES]
     ensures { result ≡ moved_all moved curves }
 {
     let mut next = curves;
-    for i in 0..PLACES {
-        let curve = curves[i];
-        next[i] = moved_here(curve, moved);
+    for curve in &mut next {
+        *curve = moved_here(*curve, moved);
     }
     next
 }
@@ -63,11 +62,9 @@ fn judge_here(curve: Curve, braking: Braking, v: u16) -> Judged
 pub fn judge_all(curves: [Curve; CURVES], braking: Braking, v: u16) -> [Judged; CURVES]
     ensures { result ≡ judged_all braking v curves }
 {
-    let none = none_judged();
-    let mut judged = [none; CURVES];
-    for i in 0..CURVES {
-        let curve = curves[i];
-        judged[i] = judge_here(curve, braking, v);
+    let mut judged = [none_judged(); CURVES];
+    for (i, curve) in curves.iter().enumerate() {
+        judged[i] = judge_here(*curve, braking, v);
     }
     judged
 }
@@ -77,19 +74,10 @@ pub fn note_all(curves: [Curve; PLACES], judged: [Judged; CURVES]) -> [Curve; PL
     ensures { result ≡ noted_all curves judged }
 {
     let mut next = curves;
-    for i in 0..PLACES {
-        let curve = curves[i];
-        let j = judged[i];
-        let interval = j.interval;
-        next[i] = noted(curve, interval);
+    for (i, curve) in next.iter_mut().enumerate() {
+        *curve = noted(*curve, judged[i].interval);
     }
     next
-}
-
-fn lower(x: u16, y: u16) -> u16
-    ensures { result ≡ min x y }
-{
-    if x <= y { x } else { y }
 }
 
 fn permitted_here(j: Judged) -> u16
@@ -102,27 +90,21 @@ fn permitted_here(j: Judged) -> u16
 pub fn least_permitted(judged: [Judged; CURVES]) -> u16
     ensures { result ≡ least_permitted judged }
 {
-    let mut least = TOP;
-    for i in 0..CURVES {
-        least = lower(least, permitted_here(judged[i]));
-    }
-    least
+    judged
+        .iter()
+        .fold(TOP, |least, j| least.min(permitted_here(*j)))
 }
 
+#[tactic(auto, using(interval::proofs::Order::not_later))]
 fn brakes_from(interval: Interval, j: Judged) -> bool
     ensures { result ≡ brakes_from interval j }
 {
-    let own = j.interval;
-    j.held & j.brakes & (rank_of(interval) <= rank_of(own))
+    j.held & j.brakes & (interval <= j.interval)
 }
 
 // Whether a curve brakes in this interval or a later one.
 pub fn any_brakes(interval: Interval, judged: [Judged; CURVES]) -> bool
     ensures { result ≡ any_brakes interval judged }
 {
-    let mut any = false;
-    for i in 0..CURVES {
-        any = any | brakes_from(interval, judged[i]);
-    }
-    any
+    judged.iter().any(|j| brakes_from(interval, *j))
 }

@@ -2,14 +2,14 @@
 use Prim.Native.Nat.{ℕ}
 use mathlib.Core.Path.{◌≡◌, refl, sym, ap, ◌∙◌}
 use mathlib.Core.Bool.{Bool, true, false}
-use mathlib.Core.Option.{none, some}
 use mathlib.Core.List.Memᴰ
 use mathlib.Core.List.{List, [], ◌∷◌, ◌++◌, append_assoc, flatten}
 use native.Mathlib.Omega.{arith}
 use lib.ListN.{length, take}
 use lib.Seq.{take-append_seam, drop-append_seam, take-length, length-take-le, get_or-take}
-use Rattle.wire.specs.declared.form.Form.{Form}
-use Rattle.wire.specs.declared.split.Next.{Next}
+use Rattle.std.specs.Prelude.{Result, Ok, Err, ⊤, Option, None, Some}
+use Rattle.wire.specs.declared.form.FormError.{FormError}
+use Rattle.wire.specs.declared.split.RestError.{RestError}
 use Rattle.portions.specs.Claims.{CommandsGiven, NoCodeEnds, ShortWaits}
 use Rattle.wire.specs.Form.{report_length, form_of, refusal_to, refusal_of}
 use Rattle.wire.specs.Numbers.{byte_at}
@@ -19,15 +19,15 @@ use Rattle.laws.proofs.Lists.{never}
 use Rattle.wire.proofs.Commands.{whole_split, form_number, next_number_lem, rest_refused, no_code_first}
 use Rattle.portions.proofs.Giving.{next_portion_lem, given_nothing, given_command, given_last}
 
-whole_of : (f : Form) → refusal_of f ≡ none → f ≡ Form.Whole
+whole_of : (f : Result ⊤ FormError) → refusal_of f ≡ None → f ≡ Ok tt
 unfolding refusal_of
-whole_of Form.WrongArea e = absurd (never (cc))
-whole_of Form.NoBytes e = absurd (never (cc))
-whole_of Form.NoCode e = absurd (never (cc))
-whole_of Form.WrongLength e = absurd (never (cc))
-whole_of Form.Whole e = refl
+whole_of (Err FormError.WrongArea) e = absurd (never (cc))
+whole_of (Err FormError.NoBytes) e = absurd (never (cc))
+whole_of (Err FormError.NoCode) e = absurd (never (cc))
+whole_of (Err FormError.WrongLength) e = absurd (never (cc))
+whole_of (Ok passed) e = refl
 
-one_given : (all : Bool) (c rest : List ℕ) → refusal_to c report_length ≡ none
+one_given : (all : Bool) (c rest : List ℕ) → refusal_to c report_length ≡ None
     → given_of all (c ++ rest) ≡ given (c ∷ (given_of all rest).portions) (given_of all rest).ended
 one_given all c rest e =
     let whole = whole_of (form_of c report_length) (form_number c report_length ∙ e) in
@@ -42,25 +42,25 @@ commands_given all (c ∷ cs) rest h =
     (one_given all c (flatten cs ++ rest) (h c (Memᴰ.head refl))
     ∙ ap (λ g. given (c ∷ g.portions) g.ended) (commands_given all cs rest (λ d m. h d (Memᴰ.tail m))))
 
-no_code_of : (n : Next) → next_refusal n ≡ some 3 → n ≡ Next.NoCode
+no_code_of : (n : Result (Option ℕ) RestError) → next_refusal n ≡ Some 3 → n ≡ Err RestError.NoCode
 unfolding next_refusal
-no_code_of Next.End e = absurd (never (cc))
-no_code_of Next.NoCode e = refl
-no_code_of Next.Short e = absurd (never (cc))
-no_code_of (Next.Command n) e = absurd (never (cc))
+no_code_of (Ok None) e = absurd (never (cc))
+no_code_of (Err RestError.NoCode) e = refl
+no_code_of (Err RestError.Short) e = absurd (never (cc))
+no_code_of (Ok (Some n)) e = absurd (never (cc))
 
-short_of : (n : Next) → next_refusal n ≡ some 4 → n ≡ Next.Short
+short_of : (n : Result (Option ℕ) RestError) → next_refusal n ≡ Some 4 → n ≡ Err RestError.Short
 unfolding next_refusal
-short_of Next.End e = absurd (never (cc))
-short_of Next.NoCode e = absurd (never (cc))
-short_of Next.Short e = refl
-short_of (Next.Command n) e = absurd (never (cc))
+short_of (Ok None) e = absurd (never (cc))
+short_of (Err RestError.NoCode) e = absurd (never (cc))
+short_of (Err RestError.Short) e = refl
+short_of (Ok (Some n)) e = absurd (never (cc))
 
 -- a refusal of a rest is the refusal that it gets as a command, in 01's numbers
-refused : (s : List ℕ) (r : ℕ) → rest_refusal s ≡ some r → refusal_to s report_length ≡ some r
+refused : (s : List ℕ) (r : ℕ) → rest_refusal s ≡ Some r → refusal_to s report_length ≡ Some r
 refused s r e = sym (form_number s report_length) ∙ rest_refused s r (next_number_lem s ∙ e)
 
-first_byte : (s : List ℕ) → next_command s ≡ Next.NoCode → next_command (take 1 s) ≡ Next.NoCode
+first_byte : (s : List ℕ) → next_command s ≡ Err RestError.NoCode → next_command (take 1 s) ≡ Err RestError.NoCode
 unfolding next_command code_next
 first_byte s e =
     let (h, no_code) = no_code_first s e in

@@ -1,5 +1,8 @@
 -- The portions of a stream: none is lost, and bytes that come later change none of those that are given. Assumes nothing.
-use Prim.Native.Nat.{ℕ, zero, suc, ◌+◌, ◌-◌, ◌*◌, ◌≤◌, ◌<◌}
+use Rattle.std.specs.Prelude.{Option, None, Some}
+use Prim.Native.Nat.{ℕ, zero, suc, ◌+◌, ◌-◌, ◌*◌, ◌/◌, ◌≤◌, ◌<◌}
+use Rattle.std.proofs.Math.Nat.{le-div_iff_mul-le}
+use Rattle.portions.specs.Reads.{input_room}
 use mathlib.Core.Path.{◌≡◌, refl, sym, ap, ◌∙◌}
 use mathlib.Core.Bool.{Bool, true, false, false≢true}
 use mathlib.Core.List.{List, [], ◌∷◌, ◌++◌, append_assoc, append-nil, flatten}
@@ -7,33 +10,34 @@ use native.Mathlib.Omega.{arith}
 use lib.ListN.{length, take, drop, length-append, length-drop, take-append-drop}
 use lib.Seq.{take-append-le, drop-append-le, drop-drop, length-take-le}
 use Rattle.portions.specs.declared.next.Portion.{Portion}
-use Rattle.wire.specs.declared.split.Next.{Next}
+use Rattle.std.specs.Prelude.{Option, None, Some, Result, Ok, Err}
+use Rattle.wire.specs.declared.split.RestError.{RestError}
 use Rattle.portions.specs.Claims.{NothingLost, EmptyEnds, AnyRoom, WaitsShort}
 use Rattle.wire.specs.Codes.{shortest, longest}
-use Rattle.portions.specs.Portions.{portion_at, next_portion, portion_length, is_last, Given, given, given_by, given_within, given_of, left_of}
+use Rattle.portions.specs.Portions.{portion_at, next_portion, next_length, Given, given, given_by, given_within, given_of, left_of}
 use Rattle.wire.specs.Split.{next_command}
 use Rattle.laws.proofs.Lists.{never, flatten_joined}
 use Rattle.wire.proofs.Commands.{command_stays, no_code_first, no_code_stays, short_length, end_length, command_length}
 
 -- ---- the next portion
 
-command_at : (all : Bool) (left : ℕ) (m : Next) (n : ℕ) → portion_at all left m ≡ Portion.Command n → m ≡ Next.Command n
+command_at : (all : Bool) (left : ℕ) (m : Result (Option ℕ) RestError) (n : ℕ) → portion_at all left m ≡ Some (Portion.Command n) → m ≡ Ok (Some n)
 unfolding portion_at
-command_at all left Next.End n e = absurd (never (cc))
-command_at all left Next.NoCode n e = absurd (never (cc))
-command_at true left Next.Short n e = absurd (never (cc))
-command_at false left Next.Short n e = absurd (never (cc))
-command_at all left (Next.Command k) n e = ap Next.Command (cc e)
+command_at all left (Ok None) n e = absurd (never (cc))
+command_at all left (Err RestError.NoCode) n e = absurd (never (cc))
+command_at true left (Err RestError.Short) n e = absurd (never (cc))
+command_at false left (Err RestError.Short) n e = absurd (never (cc))
+command_at all left (Ok (Some k)) n e = let same : k ≡ n = cc e in ap (λ k. Ok (Some k)) same
 
 -- a portion that is a command is the next one, and has its length
-pub portion_next : (all : Bool) (s : List ℕ) (n : ℕ) → next_portion all s ≡ Portion.Command n → next_command s ≡ Next.Command n
+pub portion_next : (all : Bool) (s : List ℕ) (n : ℕ) → next_portion all s ≡ Some (Portion.Command n) → next_command s ≡ Ok (Some n)
 unfolding next_portion
 portion_next all s n e = command_at all (length s) (next_command s) n e
 
-portion_within : (all : Bool) (s : List ℕ) (n : ℕ) → next_portion all s ≡ Portion.Command n → (shortest ≤ n) × (n ≤ length s)
+portion_within : (all : Bool) (s : List ℕ) (n : ℕ) → next_portion all s ≡ Some (Portion.Command n) → (shortest ≤ n) × (n ≤ length s)
 portion_within all s n e = command_length s n (portion_next all s n e)
 
-pub next_portion_lem : (all : Bool) (s : List ℕ) (n : ℕ) → next_command s ≡ Next.Command n → next_portion all s ≡ Portion.Command n
+pub next_portion_lem : (all : Bool) (s : List ℕ) (n : ℕ) → next_command s ≡ Ok (Some n) → next_portion all s ≡ Some (Portion.Command n)
 unfolding next_portion portion_at
 next_portion_lem all s n e = rw e
 
@@ -47,31 +51,31 @@ enough zero k all s h g = absurd (omega (arith, h))
 enough (suc m) zero all s h g = absurd (omega (arith, g))
 enough (suc m) (suc k) all s h g = by (next_portion all s) refl (λ n l r. enough m k all (drop n s) l r)
   where
-    by : (p : Portion) → next_portion all s ≡ p
+    by : (p : Option Portion) → next_portion all s ≡ p
         → ((n : ℕ) → length (drop n s) < m * shortest → length (drop n s) < k * shortest
         → given_within m all (drop n s) ≡ given_within k all (drop n s))
-        → given_by p all s (given_within m all (drop (portion_length p) s)) ≡ given_by p all s (given_within k all (drop (portion_length p) s))
-    by Portion.Nothing e more = refl
-    by (Portion.Command n) e more =
+        → given_by p all s (given_within m all (drop (next_length p) s)) ≡ given_by p all s (given_within k all (drop (next_length p) s))
+    by None e more = refl
+    by (Some (Portion.Command n)) e more =
         let (short, long) = portion_within all s n e in
         let left : length (drop n s) ≡ length s - n = length-drop n s in
-        ap (given_by (Portion.Command n) all s) (more n (omega (arith, left)) (omega (arith, left)))
-    by (Portion.Last n) e more = refl
+        ap (given_by (Some (Portion.Command n)) all s) (more n (omega (arith, left)) (omega (arith, left)))
+    by (Some (Portion.Last n)) e more = refl
 
-pub given_nothing : (all : Bool) (s : List ℕ) → next_portion all s ≡ Portion.Nothing → given_of all s ≡ given [] all
+pub given_nothing : (all : Bool) (s : List ℕ) → next_portion all s ≡ None → given_of all s ≡ given [] all
 unfolding given_of given_within given_by
 given_nothing all s e = rw e
 
-pub given_command : (all : Bool) (s : List ℕ) (n : ℕ) → next_portion all s ≡ Portion.Command n
+pub given_command : (all : Bool) (s : List ℕ) (n : ℕ) → next_portion all s ≡ Some (Portion.Command n)
     → given_of all s ≡ given (take n s ∷ (given_of all (drop n s)).portions) (given_of all (drop n s)).ended
 unfolding given_of given_within given_by
 given_command all s n e =
     let (short, long) = portion_within all s n e in
     let left : length (drop n s) ≡ length s - n = length-drop n s in
-    rw e (ap (given_by (Portion.Command n) all s)
+    rw e (ap (given_by (Some (Portion.Command n)) all s)
     (enough (length s) (suc (length (drop n s))) all (drop n s) (omega (arith, left)) (omega (arith, left))))
 
-pub given_last : (all : Bool) (s : List ℕ) (n : ℕ) → next_portion all s ≡ Portion.Last n → given_of all s ≡ given (take n s ∷ []) true
+pub given_last : (all : Bool) (s : List ℕ) (n : ℕ) → next_portion all s ≡ Some (Portion.Last n) → given_of all s ≡ given (take n s ∷ []) true
 unfolding given_of given_within given_by
 given_last all s n e = rw e
 
@@ -80,27 +84,27 @@ given_last all s n e = rw e
 -- the cases of the bytes at hand, where more may come: a command that is not whole yet waits, a command and a byte that is no code are
 -- given and stay so
 pub data Seen (s : List ℕ) : Type 0 where
-  waits : next_portion false s ≡ Portion.Nothing → length s < longest → Seen s
-  command : (n : ℕ) → shortest ≤ n → n ≤ length s → ((all : Bool) (t : List ℕ) → next_portion all (s ++ t) ≡ Portion.Command n) → Seen s
-  no_code : 1 ≤ length s → ((all : Bool) (t : List ℕ) → next_portion all (s ++ t) ≡ Portion.Last 1) → Seen s
+  waits : next_portion false s ≡ None → length s < longest → Seen s
+  command : (n : ℕ) → shortest ≤ n → n ≤ length s → ((all : Bool) (t : List ℕ) → next_portion all (s ++ t) ≡ Some (Portion.Command n)) → Seen s
+  no_code : 1 ≤ length s → ((all : Bool) (t : List ℕ) → next_portion all (s ++ t) ≡ Some (Portion.Last 1)) → Seen s
 
 pub seen : (s : List ℕ) → Seen s
 unfolding next_portion portion_at
 seen s = by (next_command s) refl
   where
-    by : (n : Next) → next_command s ≡ n → Seen s
-    by Next.End e = let h = end_length s e in waits (rw e) (omega (arith, h))
-    by Next.NoCode e = no_code (no_code_first s e).0 (λ all t. rw (no_code_stays s t e))
-    by Next.Short e = waits (rw e) (short_length s e).1
-    by (Next.Command n) e =
+    by : (n : Result (Option ℕ) RestError) → next_command s ≡ n → Seen s
+    by (Ok None) e = let h = end_length s e in waits (rw e) (omega (arith, h))
+    by (Err RestError.NoCode) e = no_code (no_code_first s e).0 (λ all t. rw (no_code_stays s t e))
+    by (Err RestError.Short) e = waits (rw e) (short_length s e).1
+    by (Ok (Some n)) e =
         let (short, long) = command_length s n e in
         command n short long (λ all t. rw (command_stays s t n e))
 
-alone : (s : List ℕ) (all : Bool) {p : Portion} → ((all : Bool) (t : List ℕ) → next_portion all (s ++ t) ≡ p) → next_portion all s ≡ p
+alone : (s : List ℕ) (all : Bool) {p : Option Portion} → ((all : Bool) (t : List ℕ) → next_portion all (s ++ t) ≡ p) → next_portion all s ≡ p
 alone s all e = rw (append-nil s) at (e all [])
 
 -- what is not given after a command is what is not given of the bytes behind it
-pub left_command : (all : Bool) (s : List ℕ) (n : ℕ) → next_portion all s ≡ Portion.Command n → left_of all s ≡ left_of all (drop n s)
+pub left_command : (all : Bool) (s : List ℕ) (n : ℕ) → next_portion all s ≡ Some (Portion.Command n) → left_of all s ≡ left_of all (drop n s)
 unfolding left_of flatten
 left_command all s n e =
     let more = flatten (given_of all (drop n s)).portions in
@@ -108,7 +112,7 @@ left_command all s n e =
     let counted : length (take n s ++ more) ≡ n + length more = length-append (take n s) more ∙ ap (λ k. k + length more) (length-take-le n s long) in
     rw (given_command all s n e, counted) (sym (drop-drop (length more) n s))
 
-pub left_nothing : (all : Bool) (s : List ℕ) → next_portion all s ≡ Portion.Nothing → left_of all s ≡ s
+pub left_nothing : (all : Bool) (s : List ℕ) → next_portion all s ≡ None → left_of all s ≡ s
 unfolding left_of flatten
 left_nothing all s e = rw (given_nothing all s e)
 
@@ -156,65 +160,28 @@ given_joined (suc k) all s t h e = by (seen s) (λ n g f. given_joined k all (dr
 -- ---- the promises
 
 data Ways (all : Bool) (s : List ℕ) : Type 0 where
-  nothing : next_portion all s ≡ Portion.Nothing → Ways all s
-  command : (n : ℕ) → next_portion all s ≡ Portion.Command n → Ways all s
-  last : (n : ℕ) → n ≤ length s → next_portion all s ≡ Portion.Last n → Ways all s
+  nothing : next_portion all s ≡ None → Ways all s
+  command : (n : ℕ) → next_portion all s ≡ Some (Portion.Command n) → Ways all s
+  last : (n : ℕ) → n ≤ length s → next_portion all s ≡ Some (Portion.Last n) → Ways all s
 
 ways : (all : Bool) (s : List ℕ) → Ways all s
 unfolding next_portion portion_at
 ways all s = by (next_command s) refl all
   where
-    by : (n : Next) → next_command s ≡ n → (all : Bool) → Ways all s
-    by Next.End e all = nothing (rw e)
-    by Next.NoCode e all = last 1 (no_code_first s e).0 (rw e)
-    by Next.Short e true = last (length s) (omega arith) (rw e)
-    by Next.Short e false = nothing (rw e)
-    by (Next.Command n) e all = command n (rw e)
+    by : (n : Result (Option ℕ) RestError) → next_command s ≡ n → (all : Bool) → Ways all s
+    by (Ok None) e all = nothing (rw e)
+    by (Err RestError.NoCode) e all = last 1 (no_code_first s e).0 (rw e)
+    by (Err RestError.Short) e true = last (length s) (omega arith) (rw e)
+    by (Err RestError.Short) e false = nothing (rw e)
+    by (Ok (Some n)) e all = command n (rw e)
 
--- a portion by its length and whether it is the last
-some_bytes : (all : Bool) (s : List ℕ) (n : ℕ) → next_portion all s ≡ Portion.Last n → 1 ≤ n
-unfolding next_portion portion_at
-some_bytes all s n e = by (next_command s) refl all e
-  where
-    by : (m : Next) → next_command s ≡ m → (all : Bool) → portion_at all (length s) m ≡ Portion.Last n → 1 ≤ n
-    by Next.End f all e = absurd (never (cc))
-    by Next.NoCode f all e = let one : 1 ≡ n = cc e in omega (arith, one)
-    by Next.Short f true e = let whole : length s ≡ n = cc e in omega (arith, whole, (short_length s f).0)
-    by Next.Short f false e = absurd (never (cc))
-    by (Next.Command k) f all e = absurd (never (cc))
-
-pub portion_fits : (all : Bool) (s : List ℕ) → portion_length (next_portion all s) ≤ length s
+pub portion_fits : (all : Bool) (s : List ℕ) → next_length (next_portion all s) ≤ length s
 portion_fits all s = by (ways all s)
   where
-    by : Ways all s → portion_length (next_portion all s) ≤ length s
+    by : Ways all s → next_length (next_portion all s) ≤ length s
     by (nothing e) = rw e (omega arith)
     by (command n e) = rw e (portion_within all s n e).1
     by (last n long e) = rw e long
-
-pub portion_nothing : (all : Bool) (s : List ℕ) → portion_length (next_portion all s) ≡ 0 → next_portion all s ≡ Portion.Nothing
-portion_nothing all s z = by (ways all s)
-  where
-    by : Ways all s → next_portion all s ≡ Portion.Nothing
-    by (nothing e) = e
-    by (command n e) = let zero : n ≡ 0 = rw e at z in let h = (portion_within all s n e).0 in absurd (omega (arith, zero, h))
-    by (last n long e) = let zero : n ≡ 0 = rw e at z in let h = some_bytes all s n e in absurd (omega (arith, zero, h))
-
-pub portion_command : (all : Bool) (s : List ℕ) → (portion_length (next_portion all s) ≡ 0 → ⊥) → is_last (next_portion all s) ≡ false
-    → next_portion all s ≡ Portion.Command (portion_length (next_portion all s))
-portion_command all s some more = by (ways all s)
-  where
-    by : Ways all s → next_portion all s ≡ Portion.Command (portion_length (next_portion all s))
-    by (nothing e) = absurd (some (rw e))
-    by (command n e) = rw e
-    by (last n long e) = absurd (false≢true (sym (rw e at more)))
-
-pub portion_last : (all : Bool) (s : List ℕ) → is_last (next_portion all s) ≡ true → next_portion all s ≡ Portion.Last (portion_length (next_portion all s))
-portion_last all s end = by (ways all s)
-  where
-    by : Ways all s → next_portion all s ≡ Portion.Last (portion_length (next_portion all s))
-    by (nothing e) = absurd (false≢true (rw e at end))
-    by (command n e) = absurd (false≢true (rw e at end))
-    by (last n long e) = rw e
 
 lost_within : (k : ℕ) (all : Bool) (s : List ℕ) → length s < k → flatten (given_of all s).portions ++ left_of all s ≡ s
 unfolding flatten left_of
@@ -257,7 +224,7 @@ waits_within (suc k) s h e = by (seen s) (λ n g f. waits_within k (drop n s) g 
 pub waits_short : WaitsShort
 waits_short s e = waits_within (suc (length s)) s (omega arith) e
 
-portion_empty : (all : Bool) → next_portion all [] ≡ Portion.Nothing
+portion_empty : (all : Bool) → next_portion all [] ≡ None
 unfolding next_portion portion_at next_command
 portion_empty all = refl
 
@@ -292,16 +259,16 @@ left_joined all s t e =
     rw (given_joined (suc (length s)) all s t (omega arith) e, counted)
     (sym (drop-drop (length (flatten qs)) (length (flatten ps)) (s ++ t)) ∙ ap (drop (length (flatten qs))) before)
 
-within_nothing : (k : ℕ) (all : Bool) (s : List ℕ) → next_portion all s ≡ Portion.Nothing → given_within (suc k) all s ≡ given [] all
+within_nothing : (k : ℕ) (all : Bool) (s : List ℕ) → next_portion all s ≡ None → given_within (suc k) all s ≡ given [] all
 unfolding given_within given_by
 within_nothing k all s e = rw e
 
-within_command : (k : ℕ) (all : Bool) (s : List ℕ) (n : ℕ) → next_portion all s ≡ Portion.Command n
+within_command : (k : ℕ) (all : Bool) (s : List ℕ) (n : ℕ) → next_portion all s ≡ Some (Portion.Command n)
     → given_within (suc k) all s ≡ given (take n s ∷ (given_within k all (drop n s)).portions) (given_within k all (drop n s)).ended
 unfolding given_within given_by
 within_command k all s n e = rw e
 
-within_last : (k : ℕ) (all : Bool) (s : List ℕ) (n : ℕ) → next_portion all s ≡ Portion.Last n → given_within (suc k) all s ≡ given (take n s ∷ []) true
+within_last : (k : ℕ) (all : Bool) (s : List ℕ) (n : ℕ) → next_portion all s ≡ Some (Portion.Last n) → given_within (suc k) all s ≡ given (take n s ∷ []) true
 unfolding given_within given_by
 within_last k all s n e = rw e
 
@@ -329,7 +296,7 @@ ended_within (suc k) all s e = by (ways all s) (λ n f. ended_within k all (drop
 abbrev behind : ℕ → Bool → List ℕ → List ℕ
 behind k all s = drop (length (flatten (given_within k all s).portions)) s
 
-behind_command : (k : ℕ) (all : Bool) (s : List ℕ) (n : ℕ) → next_portion all s ≡ Portion.Command n → behind (suc k) all s ≡ behind k all (drop n s)
+behind_command : (k : ℕ) (all : Bool) (s : List ℕ) (n : ℕ) → next_portion all s ≡ Some (Portion.Command n) → behind (suc k) all s ≡ behind k all (drop n s)
 unfolding flatten
 behind_command k all s n e =
     let more = flatten (given_within k all (drop n s)).portions in
@@ -356,3 +323,12 @@ goes_on (suc k) all s e = by (ways all s) (λ n f. goes_on k all (drop n s) f)
 
 pub any_room : AnyRoom
 any_room k all s = (ended_within k all s, goes_on k all s)
+
+-- where there is room for as many texts as the input can hold commands, one for a rest and one to find no more, all that can be given is
+pub all_has_room : (width room : ℕ) (all : Bool) (bytes : List ℕ) → 0 < width → (input_room / shortest + 2) * width ≤ room → length bytes ≤ input_room
+    → given_within (room / width) all bytes ≡ given_of all bytes
+unfolding given_of
+all_has_room width room all bytes some h long =
+    let (on, back) = le-div_iff_mul-le {k = width} {x = input_room / shortest + 2} {y = room} some in
+    let many : input_room / shortest + 2 ≤ room / width = back h in
+    enough (room / width) (suc (length bytes)) all bytes (omega (arith, many, long)) (omega arith)

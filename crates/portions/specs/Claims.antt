@@ -1,6 +1,5 @@
 -- What is promised of a stream, of any bytes and of any writer.
-use Rattle.std.specs.Prelude.{ℕ, ◌<◌, ◌≡◌, Bool, true, false, length, take, drop}
-use Rattle.std.proofs.Math.Option.{none, some}
+use Rattle.std.specs.Prelude.{ℕ, ◌<◌, ◌≡◌, Bool, true, false, length, take, drop, None, Some}
 use mathlib.Core.List.{List, [], ◌∷◌, ◌++◌, flatten, Memᴰ}
 use Rattle.wire.specs.Codes.{longest}
 use Rattle.wire.specs.Form.{report_length, refusal_to}
@@ -18,20 +17,20 @@ NothingLost = (all : Bool) (s : List ℕ) → flatten (given_of all s).portions 
 abbrev pub CommandsGiven : Type 0
 CommandsGiven =
     (all : Bool) (commands : List (List ℕ)) (rest : List ℕ)
-    → ((c : List ℕ) → Memᴰ c commands → refusal_to c report_length ≡ none)
+    → ((c : List ℕ) → Memᴰ c commands → refusal_to c report_length ≡ None)
     → given_of all (flatten commands ++ rest) ≡ given (commands ++ (given_of all rest).portions) (given_of all rest).ended
 
 -- "refusal 3 or 4, or an empty rest, ends it": a byte that is no code ends it at once, by refusal 3
 abbrev pub NoCodeEnds : Type 0
 NoCodeEnds =
-    (all : Bool) (s : List ℕ) → rest_refusal s ≡ some 3
-    → (given_of all s ≡ given (take 1 s ∷ []) true) × (refusal_to (take 1 s) report_length ≡ some 3)
+    (all : Bool) (s : List ℕ) → rest_refusal s ≡ Some 3
+    → (given_of all s ≡ given (take 1 s ∷ []) true) × (refusal_to (take 1 s) report_length ≡ Some 3)
 
 -- a command that is not whole waits while bytes may come, and ends it by refusal 4 where none do
 abbrev pub ShortWaits : Type 0
 ShortWaits =
-    (s : List ℕ) → rest_refusal s ≡ some 4
-    → (given_of false s ≡ given [] false) × (given_of true s ≡ given (s ∷ []) true) × (refusal_to s report_length ≡ some 4)
+    (s : List ℕ) → rest_refusal s ≡ Some 4
+    → (given_of false s ≡ given [] false) × (given_of true s ≡ given (s ∷ []) true) × (refusal_to s report_length ≡ Some 4)
 
 -- an empty rest waits, and ends it with no refusal
 abbrev pub EmptyEnds : Type 0

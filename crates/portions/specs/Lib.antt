@@ -1,3 +1,4 @@
 pub mod Claims
+pub mod Told
 pub mod Portions
 pub mod Reads

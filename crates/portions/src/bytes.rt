@@ -7,16 +7,8 @@ ghost use Rattle.wire.specs.Bytes.{placed};
 pub fn part(s: &[u8], from: usize, to: usize) -> &[u8]
     ensures { result.now ≡ slice from to s.now }
 {
-    if to <= s.len() {
-        if from <= to {
-            return &s[from..to];
-        }
-        return &s[..0];
-    }
-    if from <= s.len() {
-        return &s[from..];
-    }
-    &s[..0]
+    let end = to.min(s.len());
+    &s[from.min(end)..end]
 }
 
 // Brings such a part to the front, and tells how many bytes it has.
@@ -24,11 +16,8 @@ pub fn to_front(s: &mut [u8], from: usize, to: usize) -> usize
     ensures count { result ≡ length (slice from to s.old) }
     ensures brought { s.new ≡ placed (slice from to s.old) s.old }
 {
-    let n = part(s, from, to).len();
-    let mut i = 0;
-    while i < n {
-        s[i] = s[from + i];
-        i += 1;
-    }
-    n
+    let end = to.min(s.len());
+    let start = from.min(end);
+    s.copy_within(start..end, 0);
+    end - start
 }

@@ -25,7 +25,7 @@ pub fn sensor_fault(external: f32) -> bool
     is_low(external) | (external > 955.0)
 }
 
-// A pressure limited to 0 to 550.
+// A pressure limited to 0 to 550. A NaN and -0 give 0, which neither `clamp` nor `max` promises.
 fn limited(pressure: f32) -> f32
     ensures { result ≡ limited_of pressure }
 {

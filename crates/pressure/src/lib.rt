@@ -16,7 +16,7 @@ ghost use Rattle.pressure.specs.Report.{fresh_feedback, reported};
 pub use reference::drop_of;
 
 // Where the brake pressure is taken: in the brake pipe, or in a cylinder.
-#[derive(Clone, Copy)]
+#[derive(Clone, Copy, PartialEq, Eq)]
 pub enum Feed {
     Pipe,
     Cylinder,
@@ -64,17 +64,7 @@ pub fn fresh() -> Measured
 pub fn has_reference(phase: Phase) -> bool
     ensures { result ≡ is_set phase }
 {
-    match phase {
-        Phase::Waiting => false,
-        Phase::Settling {
-            saved: _,
-            reports: _,
-        } => false,
-        Phase::Set {
-            reference: _,
-            reports: _,
-        } => true,
-    }
+    matches!(phase, Phase::Set { .. })
 }
 
 // One report, with the phase and the record that the last one left, P_FULL in kPa (a cylinder's

@@ -60,12 +60,12 @@ fn set(reference: f32, reports: u8, pressure: f32) -> Phase
             reports: reports + 1,
         };
     }
-    let pressures = changed(Pressures {
+    let Pressures { reference, .. } = changed(Pressures {
         pressure,
         reference,
     });
     Phase::Set {
-        reference: pressures.reference,
+        reference,
         reports: 0,
     }
 }
@@ -75,15 +75,8 @@ pub fn reference_of(phase: Phase) -> f32
     ensures { result ≡ reference_of phase }
 {
     match phase {
-        Phase::Waiting => 0.0,
-        Phase::Settling {
-            saved: _,
-            reports: _,
-        } => 0.0,
-        Phase::Set {
-            reference,
-            reports: _,
-        } => reference,
+        Phase::Waiting | Phase::Settling { .. } => 0.0,
+        Phase::Set { reference, .. } => reference,
     }
 }
 

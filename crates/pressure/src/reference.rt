@@ -17,14 +17,14 @@ pub fn changed(p: Pressures) -> Pressures
 {
     if p.reference < p.pressure {
         return Pressures {
-            pressure: p.pressure,
             reference: p.reference + 1.5,
+            ..p
         };
     }
     if is_sinking(p) {
         return Pressures {
-            pressure: p.pressure,
             reference: p.reference - 0.5,
+            ..p
         };
     }
     p

@@ -10,7 +10,7 @@ mod text;
 use pressure::{Feed, Measured, Phase, Pressures};
 use std::io;
 use std::io::{Read, Write};
-use text::{put, put_kpa};
+use text::put_kpa;
 
 // A feedback with a reference whose tenth report comes next, the pressure being at the reference.
 fn tenth(reference: f32) -> Measured {
@@ -44,40 +44,34 @@ fn feed_of(kind: u8) -> Feed {
     }
 }
 
-fn put_feed(out: &mut impl Write, feed: Feed) -> io::Result<()> {
+fn feed_name(feed: Feed) -> &'static str {
     match feed {
-        Feed::Pipe => put(out, b"pipe "),
-        Feed::Cylinder => put(out, b"cylinder "),
+        Feed::Pipe => "pipe",
+        Feed::Cylinder => "cylinder",
     }
 }
 
-fn put_phase(out: &mut impl Write, phase: Phase) -> io::Result<()> {
+fn phase_name(phase: Phase) -> &'static str {
     match phase {
-        Phase::Waiting => put(out, b" waiting"),
-        Phase::Settling {
-            saved: _,
-            reports: _,
-        } => put(out, b" settling"),
-        Phase::Set {
-            reference: _,
-            reports: _,
-        } => put(out, b" set"),
+        Phase::Waiting => "waiting",
+        Phase::Settling { .. } => "settling",
+        Phase::Set { .. } => "set",
     }
 }
 
 fn put_measured(out: &mut impl Write, m: Measured) -> io::Result<()> {
     let p = m.pressures;
-    put(out, b": P_INT ")?;
+    write!(out, ": P_INT ")?;
     put_kpa(out, p.pressure)?;
-    put(out, b" P_REF ")?;
+    write!(out, " P_REF ")?;
     put_kpa(out, p.reference)?;
-    put(out, b" drop ")?;
+    write!(out, " drop ")?;
     put_kpa(out, pressure::drop_of(p))?;
-    put_phase(out, m.phase)?;
+    write!(out, " {}", phase_name(m.phase))?;
     if m.fault {
-        put(out, b" TRYCKGIVARFEL")?;
+        write!(out, " TRYCKGIVARFEL")?;
     }
-    put(out, b"\n")
+    writeln!(out)
 }
 
 // Reads one record, prints its line and tells the feedback that it left, or none where the input has ended.
@@ -86,17 +80,15 @@ fn turn(
     out: &mut impl Write,
     feedback: Measured,
 ) -> io::Result<Option<Measured>> {
-    let mut record = [0u8; 8];
-    if console::read_full(input, &mut record)? < 8 {
+    let Some(record) = console::read_record::<8, _>(input)? else {
         return Ok(None);
-    }
+    };
     let feed = feed_of(wire::byte_at(&record, 1));
     let full = wire::be16(&record, 2);
     let external = wire::signed16(wire::be16(&record, 4));
     let before = found(wire::byte_at(&record, 0), feedback, wire::be16(&record, 6));
     let after = pressure::report(before.phase, before.pressures, feed, full, external);
-    put_feed(out, feed)?;
-    write!(out, "{full} ")?;
+    write!(out, "{} {full} ", feed_name(feed))?;
     put_kpa(out, external as f32 / 2.0)?;
     put_measured(out, after)?;
     Ok(Some(after))
@@ -108,10 +100,10 @@ fn main(rt: HostRuntime) -> io::Result<()> {
     let mut out = rt.stdout();
     let mut feedback = pressure::fresh();
     for _ in 0..u32::MAX {
-        match turn(&mut input, &mut out, feedback)? {
-            Some(next) => feedback = next,
-            None => break,
-        }
+        let Some(next) = turn(&mut input, &mut out, feedback)? else {
+            break;
+        };
+        feedback = next;
     }
     Ok(())
 }

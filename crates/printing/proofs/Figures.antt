@@ -7,11 +7,11 @@ use mathlib.Core.List.{List, [], ◌∷◌, map, foldr, Memᴰ}
 use mathlib.Core.Logic.{◌⊎◌, inl, inr}
 use native.Mathlib.Omega.{arith}
 use lib.Dec.{lit≤}
+use Rattle.std.specs.Prelude.{Option, Some, None}
 use Rattle.wire.specs.Report.{state_in, order_in, causes_in, permitted_in, vmax_in, id_in, shown_in}
 use Rattle.curve.specs.declared.Interval.{Interval}
 use Rattle.curve.specs.declared.Shown.{Shown}
 use Rattle.interval.specs.Intervals.{shown_number}
-use Rattle.colours.specs.declared.Showing.{Showing}
 use Rattle.colours.specs.Numbers.{showing_number}
 use Rattle.rules.specs.Numbers.{is_accepted}
 use Rattle.rules.specs.Operands.{number_of, bit_of}
@@ -69,9 +69,9 @@ shown_most (Shown.Computed Interval.D) = lit≤ tt
 shown_most (Shown.Computed Interval.E) = lit≤ tt
 shown_most (Shown.Computed Interval.F) = lit≤ tt
 
-showing_most : (showing : Showing) → showing_number showing ≤ 8
-showing_most Showing.NoCurve = lit≤ tt
-showing_most (Showing.Curve shown) = shown_most shown
+showing_most : (showing : Option Shown) → showing_number showing ≤ 8
+showing_most None = lit≤ tt
+showing_most (Some shown) = shown_most shown
 
 -- ---- a report
 

@@ -1,4 +1,3 @@
 pub mod Figures
-pub mod Handing
 pub mod Promises
 pub mod Telling

@@ -1,20 +1,19 @@
 -- The promises of a trip's sheet. Assumes nothing.
-use Prim.Native.Nat.{ℕ, suc, ◌/◌}
+use Prim.Native.Nat.{ℕ, suc}
 use mathlib.Core.Path.{◌≡◌, refl, sym, ap, ◌∙◌}
 use mathlib.Core.Bool.{Bool, true, false, cond}
 use mathlib.Core.List.{List, [], ◌∷◌, ◌++◌, map, zip_with, flatten, append_assoc}
 use native.Mathlib.Omega.{arith}
-use lib.ListN.{length, drop}
-use lib.Seq.{take-append_seam}
+use lib.ListN.{length}
 use borrow.Author.Tests.{eq-eqb, ne_eqb}
-use Rattle.wire.specs.Bytes.{placed}
-use Rattle.portions.specs.Portions.{given_of, left_of, portions_of}
+use Rattle.std.specs.Prelude.{Some, None}
+use Rattle.portions.specs.Portions.{given_of, portions_of}
 use Rattle.portions.specs.Reads.{text_by, turn_of}
-use Rattle.portions.proofs.Giving.{enough}
+use Rattle.portions.proofs.Giving.{all_has_room as portions_have_room}
+use Rattle.portions.proofs.Turns.{turn_is_handed as turn_handed}
 use Rattle.portions.proofs.Reading.{cut_anyhow, ended_anyhow, written_is_a_beginning}
 use Rattle.curve.specs.declared.Interval.{Interval}
 use Rattle.curve.specs.declared.Shown.{Shown}
-use Rattle.colours.specs.declared.Showing.{Showing}
 use Rattle.rules.specs.Numbers.{answer_number, is_accepted}
 use Rattle.rules.specs.Operands.{number_of}
 use Rattle.rules.specs.Commands.{fresh_stm}
@@ -27,7 +26,7 @@ use Rattle.sheet.specs.Pages.{sheet_of}
 use Rattle.sheet.specs.Paging.{added, added_for, added_by, added_width}
 use Rattle.sheet.proofs.Growing.{added_is_the_sheet}
 use Rattle.printing.specs.declared.Trip.{Trip}
-use Rattle.printing.specs.Sheets.{entry_at, entries_of, trip_sheet, fresh_trip, added_at, printer, handed_on, output_room}
+use Rattle.printing.specs.Sheets.{entry_at, entries_of, trip_sheet, fresh_trip, added_at, printer, output_room}
 use Rattle.printing.specs.Claims.{OneForEachAccepted, state_after_all, AcceptedComeToIt, StatesAreNamed, IntervalsAreNamed, WritesTheSheet, WritesAtOnce, TurnIsHanded, AllHasRoom}
 
 -- ---- which commands come to the sheet
@@ -101,15 +100,15 @@ states_are_named State.FA = refl
 
 pub intervals_are_named : IntervalsAreNamed
 unfolding letters
-intervals_are_named Showing.NoCurve = refl
-intervals_are_named (Showing.Curve (Shown.Computed Interval.A)) = refl
-intervals_are_named (Showing.Curve Shown.Ab) = refl
-intervals_are_named (Showing.Curve (Shown.Computed Interval.Bf)) = refl
-intervals_are_named (Showing.Curve (Shown.Computed Interval.B)) = refl
-intervals_are_named (Showing.Curve (Shown.Computed Interval.C)) = refl
-intervals_are_named (Showing.Curve (Shown.Computed Interval.D)) = refl
-intervals_are_named (Showing.Curve (Shown.Computed Interval.E)) = refl
-intervals_are_named (Showing.Curve (Shown.Computed Interval.F)) = refl
+intervals_are_named None = refl
+intervals_are_named (Some (Shown.Computed Interval.A)) = refl
+intervals_are_named (Some Shown.Ab) = refl
+intervals_are_named (Some (Shown.Computed Interval.Bf)) = refl
+intervals_are_named (Some (Shown.Computed Interval.B)) = refl
+intervals_are_named (Some (Shown.Computed Interval.C)) = refl
+intervals_are_named (Some (Shown.Computed Interval.D)) = refl
+intervals_are_named (Some (Shown.Computed Interval.E)) = refl
+intervals_are_named (Some (Shown.Computed Interval.F)) = refl
 
 -- ---- what the program writes
 
@@ -147,11 +146,7 @@ writes_at_once reads = (
 )
 
 pub turn_is_handed : TurnIsHanded
-unfolding turn_of handed_on placed left_of
-turn_is_handed s all bytes room =
-    let text = text_by printer s.state (given_of all bytes).portions in
-    rw (take-append_seam text (drop (length text) room))
+turn_is_handed s all bytes room = turn_handed printer s all bytes room
 
 pub all_has_room : AllHasRoom
-unfolding given_of
-all_has_room all bytes h = enough (output_room / added_width) (suc (length bytes)) all bytes (omega arith) (omega arith)
+all_has_room all bytes h = portions_have_room added_width output_room all bytes (omega arith) (omega arith) h

@@ -1,5 +1,5 @@
 -- What is promised of a trip's sheet. What is promised of every sheet (`sheet/Claims`) holds of it too. Proved in proofs/.
-use Rattle.std.specs.Prelude.{ℕ, suc, ◌^◌, ◌≤◌, ◌<◌, ◌≡◌, Bool, false, cond, eqb, length, take, drop}
+use Rattle.std.specs.Prelude.{ℕ, suc, ◌^◌, ◌≤◌, ◌<◌, ◌≡◌, Bool, false, cond, eqb, length, take, drop, Option, Some, None}
 use mathlib.Core.List.{List, [], ◌∷◌, ◌++◌, map, foldr, flatten, Memᴰ}
 use Rattle.wire.specs.Bytes.{placed}
 use Rattle.wire.specs.Numbers.{number}
@@ -9,7 +9,6 @@ use Rattle.portions.specs.Portions.{given_of}
 use Rattle.portions.specs.Reads.{Standing, text_by, at_first, turn_of, after_reads, after_end, input_room}
 use Rattle.curve.specs.declared.Interval.{Interval}
 use Rattle.curve.specs.declared.Shown.{Shown}
-use Rattle.colours.specs.declared.Showing.{Showing}
 use Rattle.colours.specs.Numbers.{showing_number}
 use Rattle.rules.specs.Numbers.{answer_number, state_number}
 use Rattle.rules.specs.Commands.{fresh_stm}
@@ -77,12 +76,12 @@ shown_letters (Shown.Computed Interval.D) = ascii "D "
 shown_letters (Shown.Computed Interval.E) = ascii "E "
 shown_letters (Shown.Computed Interval.F) = ascii "F "
 
-abbrev pub showing_letters : Showing → List ℕ
-showing_letters Showing.NoCurve = ascii "  "
-showing_letters (Showing.Curve shown) = shown_letters shown
+abbrev pub showing_letters : Option Shown → List ℕ
+showing_letters None = ascii "  "
+showing_letters (Some shown) = shown_letters shown
 
 abbrev pub IntervalsAreNamed : Type 0
-IntervalsAreNamed = (showing : Showing) → letters interval_names 2 (showing_number showing) ≡ showing_letters showing
+IntervalsAreNamed = (showing : Option Shown) → letters interval_names 2 (showing_number showing) ≡ showing_letters showing
 
 -- ---- what the program writes
 
@@ -106,7 +105,7 @@ TurnIsHanded =
     (s : Standing Trip) (all : Bool) (bytes room : List ℕ)
     → let handed = handed_on s.state (given_of all bytes) in
     turn_of printer all bytes s ≡ record {
-      state = handed.trip;
+      state = handed.state;
       left = cond handed.ended [] (drop handed.used bytes);
       written = s.written ++ take handed.written (placed (text_by printer s.state (given_of all bytes).portions) room);
       ended = handed.ended;

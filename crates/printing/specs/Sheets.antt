@@ -1,9 +1,11 @@
 -- The trip sheet of a recorded stream (02, F-5).
-use Rattle.std.specs.Prelude.{ℕ, ◌+◌, ◌*◌, ◌/◌, Bool, cond, length}
+use Rattle.std.specs.Prelude.{ℕ, ◌+◌, ◌*◌, ◌/◌, Bool, cond}
 use mathlib.Core.List.{List, [], ◌∷◌, map, zip_with, flatten}
 use Rattle.wire.specs.Codes.{shortest}
 use Rattle.portions.specs.Portions.{Given, given_within, portions_of}
-use Rattle.portions.specs.Reads.{Writer, text_by, state_by, input_room}
+use Rattle.portions.specs.Reads.{Writer, input_room}
+use Rattle.portions.specs.Told.{handed_to}
+use Rattle.portions.specs.declared.telling.Handed.{Handed}
 use Rattle.rules.specs.Numbers.{is_accepted}
 use Rattle.rules.specs.Operands.{number_of}
 use Rattle.rules.specs.Commands.{fresh_stm}
@@ -13,7 +15,6 @@ use Rattle.sheet.specs.Columns.{Entry, entry}
 use Rattle.sheet.specs.Pages.{sheet_of}
 use Rattle.sheet.specs.Paging.{Added, added, fresh_sheet, added_for, added_width}
 use Rattle.printing.specs.declared.Trip.{Trip}
-use Rattle.printing.specs.declared.Handed.{Handed}
 
 -- "each accepted command": its number and its report; a repeat and a refusal give nothing
 abbrev pub entry_at : List ℕ → Moment → List Entry
@@ -48,13 +49,8 @@ printer = record {
 }
 
 -- what has come of portions that are handed to a unit: where the trip stands, the bytes used, those written, and whether the stream has ended
-unfoldable pub handed_on : Trip → Given → Handed
-handed_on trip given = record {
-  trip = state_by printer trip given.portions;
-  used = length (flatten given.portions);
-  written = length (text_by printer trip given.portions);
-  ended = given.ended;
-}
+abbrev pub handed_on : Trip → Given → Handed Trip
+handed_on trip given = handed_to printer trip given
 
 -- what is given of bytes where so many bytes of room are for the sheet: as many portions as what they add at most has room for
 abbrev pub given_in : ℕ → Bool → List ℕ → Given

@@ -3,7 +3,8 @@
 // No public function has a `requires`: each is defined at every trip, at every bytes and at every room.
 #![tactic(auto)]
 
-ghost use Rattle.std.specs.Prelude.{◌≡◌, ◌≤◌, eqb, length, take};
+ghost use Rattle.std.specs.Prelude.{◌≡◌, eqb, length, take};
+ghost use Rattle.std.proofs.Common.{rules};
 ghost use Rattle.wire.specs.Bytes.{placed};
 ghost use Rattle.portions.specs.Portions.{given_of};
 ghost use Rattle.portions.specs.Reads.{text_by};
@@ -11,7 +12,7 @@ ghost use Rattle.sheet.specs.Paging.{added_width};
 ghost use Rattle.printing.specs.Sheets.{fresh_trip, printer, handed_on, given_in};
 
 use paging::ADDED;
-use portions::INPUT;
+use portions::{Handed, INPUT, Tell, Told};
 use rules::Stm;
 use sheet::Sheet;
 use wire::{REPORT_LENGTH, SHORTEST};
@@ -26,22 +27,6 @@ pub struct Trip {
     pub sheet: Sheet,
 }
 
-// What has come of bytes that were handed on: where the trip stands, how many of them were used, how many bytes of output were
-// written, and whether the stream has ended.
-#[derive(Clone, Copy)]
-pub struct Handed {
-    pub trip: Trip,
-    pub used: usize,
-    pub written: usize,
-    pub ended: bool,
-}
-
-#[derive(Clone, Copy)]
-struct Told {
-    trip: Trip,
-    written: usize,
-}
-
 // A trip before any command.
 pub fn fresh() -> Trip
     ensures { result ≡ fresh_trip }
@@ -52,76 +37,48 @@ pub fn fresh() -> Trip
     }
 }
 
-// Hands one portion to the unit and, where it is accepted, prints what is due at the front of the room.
-fn tell(trip: Trip, portion: &[u8], room: &mut [u8]) -> Told
-    requires { added_width ≤ length room.old }
-    ensures trip_after { result.trip ≡ printer.next trip portion.now }
-    ensures count { result.written ≡ length (printer.text trip portion.now) }
-    ensures short { result.written ≤ added_width }
-    ensures written { room.new ≡ placed (printer.text trip portion.now) room.old }
-{
-    let stm = trip.stm;
-    let sheet = trip.sheet;
-    let mut report = [255u8; REPORT_LENGTH];
-    let outcome = unit::call(stm, portion, &mut report);
-    let answer = outcome.answer;
-    let stm = outcome.stm;
-    if unit::answer_number(answer) == 0 {
-        let put = paging::print(sheet, wire::be32(portion, 1), report, room);
-        let sheet = put.sheet;
-        return Told {
-            trip: Trip { stm, sheet },
-            written: put.written,
-        };
+// A unit with the sheet of its trip, that is printed.
+pub struct Printer;
+
+impl Tell for Printer {
+    type State = Trip;
+
+    ghost writer = { printer };
+
+    ghost WIDTH = { added_width };
+
+    const WIDTH: usize = ADDED;
+
+    // Hands one portion to the unit and, where it is accepted, prints what is due.
+    fn tell(trip: Trip, portion: &[u8], room: &mut [u8]) -> Told<Trip> {
+        let mut report = [255u8; REPORT_LENGTH];
+        let outcome = unit::call(trip.stm, portion, &mut report);
+        let stm = outcome.stm;
+        if unit::answer_number(outcome.answer) == 0 {
+            let put = paging::print(trip.sheet, wire::be32(portion, 1), report, room);
+            return Told {
+                state: Trip {
+                    stm,
+                    sheet: put.sheet,
+                },
+                written: put.written,
+            };
+        }
+        Told {
+            state: Trip { stm, ..trip },
+            written: 0,
+        }
     }
-    Told {
-        trip: Trip { stm, sheet },
-        written: 0,
-    }
+
+    ghost some_width = { Prim.search rules };
 }
 
 // Hands on what can be given of the bytes, as far as there is room for what it adds. `all` says that no bytes come after these.
-pub fn hand_on(trip: Trip, bytes: &[u8], all: bool, output: &mut [u8]) -> Handed
+pub fn hand_on(trip: Trip, bytes: &[u8], all: bool, output: &mut [u8]) -> Handed<Trip>
     ensures outcome { result ≡ handed_on trip (given_in (length output.old) all bytes.now) }
     ensures written { output.new ≡ placed (text_by printer trip (given_in (length output.old) all bytes.now).portions) output.old }
 {
-    let most = output.len() / ADDED;
-    let mut trip = trip;
-    let mut used = 0;
-    let mut written = 0;
-    let mut i = 0;
-    while i < most {
-        let rest = &bytes[used..];
-        let portion = portions::next_portion(rest, all);
-        let n = portions::portion_length(portion);
-        if n == 0 {
-            return Handed {
-                trip,
-                used,
-                written,
-                ended: all,
-            };
-        }
-        let told = tell(trip, &rest[..n], &mut output[written..]);
-        trip = told.trip;
-        written += told.written;
-        used += n;
-        if portions::is_last(portion) {
-            return Handed {
-                trip,
-                used,
-                written,
-                ended: true,
-            };
-        }
-        i += 1;
-    }
-    Handed {
-        trip,
-        used,
-        written,
-        ended: false,
-    }
+    portions::hand_on::<Printer>(trip, bytes, all, output)
 }
 
 // A turn of the program: `left` bytes were left at the front of the input, and with those that were read after them there are
@@ -132,9 +89,9 @@ pub fn turn(
     left: usize,
     to: usize,
     output: &mut [u8; OUTPUT],
-) -> Handed
+) -> Handed<Trip>
     ensures outcome { result ≡ handed_on trip (given_of (eqb to left) (take to input.now)) }
     ensures written { output.new ≡ placed (text_by printer trip (given_of (eqb to left) (take to input.now)).portions) output.old }
 {
-    hand_on(trip, portions::part(input, 0, to), to == left, output)
+    portions::turn::<Printer>(trip, input, left, to, output)
 }

@@ -1,3 +1,4 @@
+pub mod Equality
 pub mod Told
 pub mod Claims
 pub mod Computing

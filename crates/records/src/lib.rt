@@ -6,7 +6,7 @@
 pub const RECORDS: usize = 8;
 
 // The categories ETxy, in the order of their numbers: x the route, y the signal that controls the record.
-#[derive(Clone, Copy)]
+#[derive(Clone, Copy, PartialEq, Eq)]
 pub enum Category {
     RF,
     RH,
@@ -15,14 +15,14 @@ pub enum Category {
 }
 
 // The kinds of a signal.
-#[derive(Clone, Copy)]
+#[derive(Clone, Copy, PartialEq, Eq)]
 pub enum Signal {
     Main,
     Distant,
 }
 
 // The routes: straight (R) and diverging (G).
-#[derive(Clone, Copy)]
+#[derive(Clone, Copy, PartialEq, Eq)]
 pub enum Route {
     Straight,
     Diverging,

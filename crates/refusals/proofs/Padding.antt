@@ -1,33 +1,42 @@
 -- Laws of the bytes of a command with 0 after its end. Assumes nothing.
-use Prim.Native.Nat.{ℕ, zero, suc, ◌+◌, ◌<◌}
-use mathlib.Core.Path.{◌≡◌, refl, sym, ap, ◌∙◌}
+use Prim.Native.Nat.{ℕ, zero, suc, ◌≤◌, ◌<◌}
+use mathlib.Core.Path.{◌≡◌, refl, ap}
+use mathlib.Core.Bool.{Bool, true, false, cond, ◌&&◌}
 use mathlib.Core.List.{List, [], ◌∷◌, ◌++◌}
 use native.Mathlib.Nat.{le_of_suc-le-suc, not-suc-le-zero}
-use lib.ListN.{length, take, drop, set, get_or}
-use Rattle.laws.proofs.Lists.{copy_step}
-use Rattle.wire.specs.Numbers.{byte_at}
+use native.Mathlib.Omega.{arith}
+use lib.ListN.{length, take, drop, replicate}
+use lib.Dec.{eqb}
+use lib.Pointwise.{pointwise}
+use Rattle.wire.specs.Bytes.{same_bytes}
 use Rattle.rules.specs.Commands.{padded}
 
--- there are as many as asked for
-pub padded_length : (n : ℕ) (s : List ℕ) → length (padded n s) ≡ n
+-- no bytes are padded with 0 alone
+nothing_padded : (n : ℕ) → replicate n 0 ≡ padded n []
 unfolding padded
-padded_length zero s = refl
-padded_length (suc n) s = ap suc (padded_length n (drop 1 s))
+nothing_padded zero = refl
+nothing_padded (suc n) = ap (◌∷◌ 0) (nothing_padded n)
 
-tail_byte : (s : List ℕ) (i : ℕ) → byte_at (drop 1 s) i ≡ byte_at s (suc i)
-tail_byte [] i = refl
-tail_byte (x ∷ xs) i = refl
-
--- each is the command's byte at its place
-padded_byte : (n : ℕ) (s : List ℕ) (i : ℕ) → i < n → get_or (padded n s) i 0 ≡ byte_at s i
+-- the first bytes of a command copied over zeros, all of them where there are fewer than asked for
+pub padded_copy : (k n : ℕ) (s : List ℕ) → k ≤ n → k ≤ length s → (k < n → length s ≤ k)
+    → take k s ++ drop k (replicate n 0) ≡ padded n s
 unfolding padded
-padded_byte zero s i h = absurd (not-suc-le-zero h)
-padded_byte (suc n) s zero h = refl
-padded_byte (suc n) s (suc i) h = padded_byte n (drop 1 s) i (le_of_suc-le-suc h) ∙ tail_byte s i
+padded_copy zero zero s h l m = refl
+padded_copy zero (suc n) [] h l m = nothing_padded (suc n)
+padded_copy zero (suc n) (x ∷ s) h l m = absurd (not-suc-le-zero (m (omega arith)))
+padded_copy (suc k) zero s h l m = absurd (not-suc-le-zero h)
+padded_copy (suc k) (suc n) [] h l m = absurd (not-suc-le-zero l)
+padded_copy (suc k) (suc n) (x ∷ s) h l m =
+    ap (◌∷◌ x) (padded_copy k n s (le_of_suc-le-suc h) (le_of_suc-le-suc l) (λ i. le_of_suc-le-suc (m (omega (arith, i)))))
 
--- one byte more of the padded bytes over others
-pub padded_step : (n : ℕ) (s old : List ℕ) (i : ℕ) {x : ℕ} → x ≡ byte_at s i → i < n → length old ≡ n
-    → set (take i (padded n s) ++ drop i old) i x ≡ take (i + 1) (padded n s) ++ drop (i + 1) old
-padded_step n s old i e h k =
-    rw (e, sym (padded_byte n s i h))
-    (copy_step (padded n s) old i 0 (rw (padded_length n s) h) (rw k h))
+both : (t : Bool) {a b : Bool} → a ≡ b → t && a ≡ cond t b false
+both true e = e
+both false e = refl
+
+-- the comparison of two arrays of bytes
+pub same_items : (xs ys : List ℕ) → pointwise eqb xs ys ≡ same_bytes xs ys
+unfolding same_bytes
+same_items [] [] = refl
+same_items [] (y ∷ ys) = refl
+same_items (x ∷ xs) [] = refl
+same_items (x ∷ xs) (y ∷ ys) = both (eqb x y) (same_items xs ys)

@@ -2,22 +2,23 @@
 use Prim.Native.Nat.{ℕ}
 use mathlib.Core.Path.{◌≡◌, refl}
 use mathlib.Core.List.{List}
-use Rattle.wire.specs.declared.form.Form.{Form}
+use Rattle.std.specs.Prelude.{Result, Ok, Err, ⊤}
+use Rattle.wire.specs.declared.form.FormError.{FormError}
 use Rattle.wire.specs.Form.{form_of, part_for, operand_part}
 use Rattle.rules.specs.Numbers.{code_of}
 use Rattle.rules.specs.Operands.{code_byte}
 use Rattle.rules.specs.Refusals.{first_of, rules_for, whole_answer, answer_for, answer_of}
 use Rattle.rules.specs.declared.Stm.{Stm}
 
-by_form : (form : Form) (stm : Stm) (command : List ℕ)
+by_form : (form : Result ⊤ FormError) (stm : Stm) (command : List ℕ)
     → answer_for form (first_of (rules_for stm command (code_of (code_byte command)) (part_for form command)))
     ≡ answer_for form (whole_answer stm command)
 unfolding part_for
-by_form Form.WrongArea stm command = refl
-by_form Form.NoBytes stm command = refl
-by_form Form.NoCode stm command = refl
-by_form Form.WrongLength stm command = refl
-by_form Form.Whole stm command = refl
+by_form (Err FormError.WrongArea) stm command = refl
+by_form (Err FormError.NoBytes) stm command = refl
+by_form (Err FormError.NoCode) stm command = refl
+by_form (Err FormError.WrongLength) stm command = refl
+by_form (Ok passed) stm command = refl
 
 pub answer_by_form : (stm : Stm) (command : List ℕ) (area : ℕ)
     → answer_for (form_of command area) (first_of (rules_for stm command (code_of (code_byte command)) (operand_part command area)))

@@ -6,7 +6,8 @@ use mathlib.Core.List.{List}
 use lib.Dec.{eqb}
 use lib.ListN.{length}
 use borrow.Author.Tests.{not-false}
-use Rattle.wire.specs.declared.form.Form.{Form}
+use Rattle.std.specs.Prelude.{Result, Ok, Err, ⊤}
+use Rattle.wire.specs.declared.form.FormError.{FormError}
 use Rattle.wire.specs.Form.{form_of, operands_of}
 use Rattle.pressure.specs.Phases.{is_set}
 use Rattle.rules.specs.Numbers.{code_of, is_state, is_accepted}
@@ -120,17 +121,17 @@ passed_of stm command e =
       superseded = t.14;
     }
 
-by_form : (form : Form) (stm : Stm) (command : List ℕ) → is_accepted (answer_for form (whole_answer stm command)) ≡ true
-    → (form ≡ Form.Whole) × Passed stm command
-by_form Form.WrongArea stm command e = impossible e
-by_form Form.NoBytes stm command e = impossible e
-by_form Form.NoCode stm command e = impossible e
-by_form Form.WrongLength stm command e = impossible e
-by_form Form.Whole stm command e = (refl, passed_of stm command e)
+by_form : (form : Result ⊤ FormError) (stm : Stm) (command : List ℕ) → is_accepted (answer_for form (whole_answer stm command)) ≡ true
+    → (form ≡ Ok tt) × Passed stm command
+by_form (Err FormError.WrongArea) stm command e = impossible e
+by_form (Err FormError.NoBytes) stm command e = impossible e
+by_form (Err FormError.NoCode) stm command e = impossible e
+by_form (Err FormError.WrongLength) stm command e = impossible e
+by_form (Ok passed) stm command e = (refl, passed_of stm command e)
 
 -- an accepted command has passed 1 to 4, and 5 to 18
 pub accepted_passed : (stm : Stm) (command : List ℕ) (area : ℕ) → is_accepted (answer_of stm command area) ≡ true
-    → (form_of command area ≡ Form.Whole) × Passed stm command
+    → (form_of command area ≡ Ok tt) × Passed stm command
 unfolding answer_of
 accepted_passed stm command area e = by_form (form_of command area) stm command e
 
@@ -144,6 +145,6 @@ unfolding call_of
 after_other stm x e = rw e
 
 pub passed : (stm : Stm) (x : Sent) → is_accepted (answer_to stm x) ≡ true
-    → (form_of x.command (length x.area) ≡ Form.Whole) × Passed stm x.command
+    → (form_of x.command (length x.area) ≡ Ok tt) × Passed stm x.command
 unfolding call_of
 passed stm x e = accepted_passed stm x.command (length x.area) e

@@ -10,18 +10,18 @@ use mathlib.Core.List.{List, [], ◌∷◌}
 use lib.Dec.{eqb, leb}
 use lib.ListN.{length, get_or}
 use borrow.Author.Tests.{eqb-true, eq-eqb, leb-true, not-false}
+use Rattle.std.specs.Prelude.{Option, Some, None}
 use Rattle.wire.specs.Numbers.{byte_at}
 use Rattle.wire.specs.Report.{area_in}
-use Rattle.wire.specs.declared.form.Form.{Form}
+use Rattle.std.specs.Prelude.{Result, Ok, Err, ⊤}
+use Rattle.wire.specs.declared.form.FormError.{FormError}
 use Rattle.wire.specs.Form.{form_of, operands_of}
 use Rattle.areas.specs.declared.Area.{Area}
 use Rattle.areas.specs.declared.Event.{Event}
-use Rattle.areas.specs.declared.LineSpeed.{LineSpeed}
-use Rattle.areas.specs.declared.Overlap.{Overlap}
 use Rattle.areas.specs.declared.Stay.{Stay}
 use Rattle.areas.specs.Numbers.{area_number, is_area, event_number, event_of}
 use Rattle.areas.specs.Rows.{is_taken, target_of}
-use Rattle.areas.specs.Stays.{begun_stay, with_overlap, line_by, missed, passed_stay, covered_by, covered_stay}
+use Rattle.areas.specs.Stays.{begun_stay, with_missing, line_by, missed, passed_stay, covered_by, covered_stay}
 use Rattle.areas.specs.Claims.{takes, enters}
 use Rattle.areas.proofs.Told.{taken_by_lem, target_by, partial_is, full_is, event_number_lem, event_gmd}
 use Rattle.areas.proofs.Table.{rows_are_told, target_number}
@@ -136,14 +136,14 @@ answered_whole stm command e =
     up_to_six : (byte speed : ℕ) → is_event_given byte speed ≡ true → byte ≤ 6
     up_to_six byte speed given = leb-true byte 6 (both (leb byte 6) (cond (eqb byte 1) (within 10 300 speed) (eqb speed 0)) given).0
 
-answered_form : (form : Form) (stm : Stm) (command : List ℕ) → is_of Code.AreaEvent command ≡ true
+answered_form : (form : Result ⊤ FormError) (stm : Stm) (command : List ℕ) → is_of Code.AreaEvent command ≡ true
     → is_judged (answer_number (answer_for form (whole_answer stm command))) ≡ true
     → answer_number (answer_for form (whole_answer stm command)) ≡ answered stm command
-answered_form Form.WrongArea stm command c e = impossible e
-answered_form Form.NoBytes stm command c e = impossible e
-answered_form Form.NoCode stm command c e = impossible e
-answered_form Form.WrongLength stm command c e = impossible e
-answered_form Form.Whole stm command c e =
+answered_form (Err FormError.WrongArea) stm command c e = impossible e
+answered_form (Err FormError.NoBytes) stm command c e = impossible e
+answered_form (Err FormError.NoCode) stm command c e = impossible e
+answered_form (Err FormError.WrongLength) stm command c e = impossible e
+answered_form (Ok passed) stm command c e =
     subst (AnsweredAs stm command) (sym (code_is Code.AreaEvent (code_of (code_byte command)) c)) (answered_whole stm command) e
 
 pub event_is_answered : EventIsAnswered
@@ -155,10 +155,10 @@ event_is_answered stm x c e = answered_form (form_of x.command (length x.area)) 
 -- the stay after it, by its number
 passed_by : (byte speed : ℕ) (stay : Stay) → event_number (event_of byte) ≡ byte
     → passed_stay (event_of byte) speed stay
-    ≡ cond (eqb byte 3) (with_overlap stay (missed stay.overlap)) (begun_stay (target_of stay.area (event_of byte)) (line_by (event_of byte) speed))
+    ≡ cond (eqb byte 3) (with_missing stay (missed stay.missing)) (begun_stay (target_of stay.area (event_of byte)) (line_by (event_of byte) speed))
 unfolding passed_stay
 passed_by byte speed stay n =
-    ap (λ k. cond (eqb k 3) (with_overlap stay (missed stay.overlap)) (begun_stay (target_of stay.area (event_of byte)) (line_by (event_of byte) speed))) n
+    ap (λ k. cond (eqb k 3) (with_missing stay (missed stay.missing)) (begun_stay (target_of stay.area (event_of byte)) (line_by (event_of byte) speed))) n
 
 module _ (byte speed : ℕ) (stay : Stay) (n : event_number (event_of byte) ≡ byte) (t : is_taken stay.area (event_of byte) ≡ true) where
   passed_area : area_number (passed_stay (event_of byte) speed stay).area ≡ cond (eqb byte 3) (area_number stay.area) (enters byte)
@@ -168,7 +168,7 @@ module _ (byte speed : ℕ) (stay : Stay) (n : event_number (event_of byte) ≡ 
     where
       by : (group : Bool)
           → area_number
-          (cond group (with_overlap stay (missed stay.overlap)) (begun_stay (target_of stay.area (event_of byte)) (line_by (event_of byte) speed))).area
+          (cond group (with_missing stay (missed stay.missing)) (begun_stay (target_of stay.area (event_of byte)) (line_by (event_of byte) speed))).area
           ≡ cond group (area_number stay.area) (enters byte)
       by true = refl
       by false = target_number stay.area (event_of byte) t ∙ ap enters n
@@ -177,7 +177,7 @@ module _ (byte speed : ℕ) (stay : Stay) (n : event_number (event_of byte) ≡ 
       → passed_stay (event_of byte) speed stay ≡ begun_stay (target_of stay.area (event_of byte)) (line_by (event_of byte) speed)
   passed_other g = passed_by byte speed stay n ∙ rw g
 
-  passed_group : byte ≡ 3 → passed_stay (event_of byte) speed stay ≡ with_overlap stay (missed stay.overlap)
+  passed_group : byte ≡ 3 → passed_stay (event_of byte) speed stay ≡ with_missing stay (missed stay.missing)
   passed_group g = passed_by byte speed stay n ∙ rw g
 
 -- a group without overlap that is taken finds the fully equipped area
@@ -236,10 +236,10 @@ module _ (stm : Stm) (x : Sent) (e : is_accepted (answer_to stm x) ≡ true) (o 
   unfolding passed_track
   event_done = record {
     area = area_is_lem;
-    followed = λ g. ap (λ s. s.overlap) (stay_is ∙ passed_other byte speed before number_is taken_is g);
-    group = λ g p. ap (λ s. s.overlap) (stay_is ∙ passed_group byte speed before number_is taken_is g) ∙ ap missed p;
+    followed = λ g. ap (λ s. s.missing) (stay_is ∙ passed_other byte speed before number_is taken_is g);
+    group = λ g p. ap (λ s. s.missing) (stay_is ∙ passed_group byte speed before number_is taken_is g) ∙ ap missed p;
     again = λ g covered p. stay_is ∙ passed_group byte speed before number_is taken_is g
-        ∙ ap (λ o. with_overlap before (missed o)) p ∙ ap (with_overlap before) (sym p);
+        ∙ ap (λ o. with_missing before (missed o)) p ∙ ap (with_missing before) (sym p);
     deletes = λ t place. ap (λ sections. (get_or sections place free_section).held) sections_is ∙ deleted (enters_by_gmd stm x.command) stm place t;
     leaves = λ t. sections_is ∙ ap (λ d. cond d no_sections stm.track.sections) t;
     curves = ap (λ track. track.curves) track_is;
@@ -259,29 +259,29 @@ event_is_done = event_done
 -- ---- where the area comes from
 
 -- by the overlap that a report finds: the area changes only at 50 m, from 8 to 4
-covered_by_lem : (moved : ℕ) (stay : Stay) (overlap : Overlap) → stay.overlap ≡ overlap
-    → (area_number (covered_by moved stay overlap).area ≡ area_number stay.area → ⊥)
-    → (before : ℕ) × (stay.overlap ≡ Overlap.Missing before) × (5000 ≤ before + moved) × (stay.area ≡ Area.Full)
-    × (covered_by moved stay overlap ≡ begun_stay Area.Partial LineSpeed.Dark)
-covered_by_lem moved stay Overlap.Present o n = absurd (n refl)
-covered_by_lem moved stay (Overlap.Missing covered) o n = by (leb 5000 (covered + moved)) refl n
+covered_by_lem : (moved : ℕ) (stay : Stay) (missing : Option ℕ) → stay.missing ≡ missing
+    → (area_number (covered_by moved stay missing).area ≡ area_number stay.area → ⊥)
+    → (before : ℕ) × (stay.missing ≡ Some before) × (5000 ≤ before + moved) × (stay.area ≡ Area.Full)
+    × (covered_by moved stay missing ≡ begun_stay Area.Partial None)
+covered_by_lem moved stay None o n = absurd (n refl)
+covered_by_lem moved stay (Some covered) o n = by (leb 5000 (covered + moved)) refl n
   where
     entering : (taken : Bool) → is_taken stay.area Event.NoOverlap ≡ taken → 5000 ≤ covered + moved
         → (area_number (target_of stay.area Event.NoOverlap) ≡ area_number stay.area → ⊥)
-        → (before : ℕ) × (stay.overlap ≡ Overlap.Missing before) × (5000 ≤ before + moved) × (stay.area ≡ Area.Full)
-        × (begun_stay (target_of stay.area Event.NoOverlap) LineSpeed.Dark ≡ begun_stay Area.Partial LineSpeed.Dark)
+        → (before : ℕ) × (stay.missing ≡ Some before) × (5000 ≤ before + moved) × (stay.area ≡ Area.Full)
+        × (begun_stay (target_of stay.area Event.NoOverlap) None ≡ begun_stay Area.Partial None)
     entering true t h m =
         let full = full_is stay.area (sym (taken_by_lem stay.area Event.NoOverlap) ∙ t) in
-        (covered, o, h, full, ap (λ to. begun_stay to LineSpeed.Dark) (target_by stay.area Event.NoOverlap true t))
+        (covered, o, h, full, ap (λ to. begun_stay to None) (target_by stay.area Event.NoOverlap true t))
     entering false t h m = absurd (m (ap area_number (target_by stay.area Event.NoOverlap false t)))
 
     by : (t : Bool) → leb 5000 (covered + moved) ≡ t
         → (area_number
-        (cond t (begun_stay (target_of stay.area Event.NoOverlap) LineSpeed.Dark) (with_overlap stay (Overlap.Missing (covered + moved)))).area
+        (cond t (begun_stay (target_of stay.area Event.NoOverlap) None) (with_missing stay (Some (covered + moved)))).area
         ≡ area_number stay.area → ⊥)
-        → (before : ℕ) × (stay.overlap ≡ Overlap.Missing before) × (5000 ≤ before + moved) × (stay.area ≡ Area.Full)
-        × (cond t (begun_stay (target_of stay.area Event.NoOverlap) LineSpeed.Dark) (with_overlap stay (Overlap.Missing (covered + moved)))
-        ≡ begun_stay Area.Partial LineSpeed.Dark)
+        → (before : ℕ) × (stay.missing ≡ Some before) × (5000 ≤ before + moved) × (stay.area ≡ Area.Full)
+        × (cond t (begun_stay (target_of stay.area Event.NoOverlap) None) (with_missing stay (Some (covered + moved)))
+        ≡ begun_stay Area.Partial None)
     by true t m = entering (is_taken stay.area Event.NoOverlap) refl (leb-true 5000 (covered + moved) t) m
     by false t m = absurd (m refl)
 
@@ -289,10 +289,10 @@ covered_by_lem moved stay (Overlap.Missing covered) o n = by (leb 5000 (covered 
 pub record Reaches (state : State) (moved : ℕ) (stay : Stay) : Type 0 where
   pub moving : (is_state State.HS state || is_state State.DA state) ≡ true
   pub before : ℕ
-  pub pending : stay.overlap ≡ Overlap.Missing before
+  pub pending : stay.missing ≡ Some before
   pub reached : 5000 ≤ before + moved
   pub full : stay.area ≡ Area.Full
-  pub entered : covered_in state moved stay ≡ begun_stay Area.Partial LineSpeed.Dark
+  pub entered : covered_in state moved stay ≡ begun_stay Area.Partial None
 
 reaches : (state : State) (moved : ℕ) (stay : Stay) → (area_number (covered_in state moved stay).area ≡ area_number stay.area → ⊥)
     → Reaches state moved stay
@@ -300,10 +300,10 @@ unfolding covered_stay
 reaches State.DE moved stay n = absurd (n refl)
 reaches State.CS moved stay n = absurd (n refl)
 reaches State.HS moved stay n =
-    let r = covered_by_lem moved stay stay.overlap refl n in
+    let r = covered_by_lem moved stay stay.missing refl n in
     record { moving = refl; before = r.0; pending = r.1; reached = r.2; full = r.3; entered = r.4 }
 reaches State.DA moved stay n =
-    let r = covered_by_lem moved stay stay.overlap refl n in
+    let r = covered_by_lem moved stay stay.missing refl n in
     record { moving = refl; before = r.0; pending = r.1; reached = r.2; full = r.3; entered = r.4 }
 reaches State.FA moved stay n = absurd (n refl)
 
@@ -380,7 +380,7 @@ area_changes_by stm x e n = changed_by stm x e (code_of (code_byte x.command)) r
 -- ---- where nothing pends
 
 still_by : (code : Code) (s : List ℕ) (stm : Stm) → (is_code Code.Start code || is_code Code.AreaEvent code) ≡ false
-    → stm.track.stay.overlap ≡ Overlap.Present → stay_by code s stm ≡ stm.track.stay
+    → stm.track.stay.missing ≡ None → stay_by code s stm ≡ stm.track.stay
 still_by Code.Start s stm n p = impossible (sym n)
 still_by Code.ChangeState s stm n p = entered_alone (state_of (byte_at s 0)) stm.track.stay p
 still_by Code.Odometer s stm n p = covered_alone stm.control.state (reading_of s).moved stm.track.stay p
@@ -405,7 +405,7 @@ stay_stays stm xs p n =
     kept_to_end (λ s. s.track.stay ≡ stm.track.stay) moves_area moves_area
     (λ s x e f g same.
     stay_after s x (code_of (code_byte x.command)) e refl
-    ∙ still_by (code_of (code_byte x.command)) (operands_of x.command) s f (ap (λ stay. stay.overlap) same ∙ p) ∙ same)
+    ∙ still_by (code_of (code_byte x.command)) (operands_of x.command) s f (ap (λ stay. stay.missing) same ∙ p) ∙ same)
     stm xs n n refl
 
 -- ---- 50 m
@@ -453,7 +453,7 @@ module _ (stm : Stm) (x : Sent) (e : is_accepted (answer_to stm x) ≡ true) (n 
       group_in_full stm.track.stay.area (first_operand x.command) (only_group o)
       (event_taken stm x e (code_is Code.AreaEvent (code_of (code_byte x.command)) o))
 
-  pending_by : (code : Code) → code_of (code_byte x.command) ≡ code → (covered : ℕ) → stm.track.stay.overlap ≡ Overlap.Missing covered
+  pending_by : (code : Code) → code_of (code_byte x.command) ≡ code → (covered : ℕ) → stm.track.stay.missing ≡ Some covered
       → (state_after stm x).track.stay ≡ moved_stay code
   unfolding reading_of
   pending_by Code.Start c covered p = absurd (false≢true (sym unfresh.0 ∙ ap (is_code Code.Start) c))
@@ -479,7 +479,7 @@ module _ (stm : Stm) (x : Sent) (e : is_accepted (answer_to stm x) ≡ true) (n 
 
 -- one command, accepted or not
 one_pending : (stm : Stm) (x : Sent) (accepted : Bool) → is_accepted (answer_to stm x) ≡ accepted
-    → (accepted ≡ true → ends_pending stm x.command ≡ false) → (covered : ℕ) → stm.track.stay.overlap ≡ Overlap.Missing covered
+    → (accepted ≡ true → ends_pending stm x.command ≡ false) → (covered : ℕ) → stm.track.stay.missing ≡ Some covered
     → (state_after stm x).track.stay
     ≡ cond (accepted && is_moving stm x.command) (covered_stay (moved_of x.command) stm.track.stay) stm.track.stay
 one_pending stm x true e n covered p = pending_by stm x e (n refl) (code_of (code_byte x.command)) refl covered p
@@ -487,7 +487,7 @@ one_pending stm x false e n covered p = ap (λ s. s.track.stay) (after_other stm
 
 -- and once the partial area is entered so, it stays
 abbrev in_partial : Stay
-in_partial = begun_stay Area.Partial LineSpeed.Dark
+in_partial = begun_stay Area.Partial None
 
 partial_stays : (stm : Stm) (xs : List Sent) → stm.track.stay ≡ in_partial → none_accepted ends_pending stm xs ≡ true
     → (state_at_end stm xs).track.stay ≡ in_partial
@@ -503,10 +503,10 @@ partial_stays stm xs p n =
     on s x e f false o same =
         let start = (unfresh s x e f).0 in
         stay_after s x (code_of (code_byte x.command)) e refl
-        ∙ still_by (code_of (code_byte x.command)) (operands_of x.command) s (rw (start, o)) (ap (λ stay. stay.overlap) same) ∙ same
+        ∙ still_by (code_of (code_byte x.command)) (operands_of x.command) s (rw (start, o)) (ap (λ stay. stay.missing) same) ∙ same
 
 -- one command, by the ground that it moves
-module _ (line : LineSpeed) where
+module _ (line : Option ℕ) where
   step_below : (t : Bool) (before moved : ℕ) → before + cond t moved 0 < 5000
       → cond t (covered_stay moved (pends line before)) (pends line before) ≡ pends line (before + cond t moved 0)
   step_below true before moved h = covered_below line before moved h
@@ -531,7 +531,7 @@ module _ (line : LineSpeed) where
       let t = is_accepted (answer_to stm x) && is_moving stm x.command in
       let moved = moved_of x.command in
       let first : (state_after stm x).track.stay ≡ cond t (covered_stay moved (pends line before)) (pends line before) =
-      one_pending stm x (is_accepted (answer_to stm x)) refl spared.0 before (ap (λ stay. stay.overlap) p)
+      one_pending stm x (is_accepted (answer_to stm x)) refl spared.0 before (ap (λ stay. stay.missing) p)
       ∙ ap (λ stay. cond t (covered_stay moved stay) stay) p in
       let rest = ground_over (state_after stm x) xs in
       rw (ground_step stm x xs)
@@ -571,15 +571,15 @@ ground_is_counted stm x ys e group p n =
         let full = group_in_full stm.track.stay.area (first_operand x.command) three taken in
         stay_after stm x Code.AreaEvent e c
         ∙ passed_group (first_operand x.command) (event_speed_of x.command) stm.track.stay (event_told stm x e c) taken three
-        ∙ ap (λ overlap. with_overlap stm.track.stay (missed overlap)) p
-        ∙ ap (λ area. record { area = area; line = stm.track.stay.line; overlap = Overlap.Missing 0 }) full
+        ∙ ap (λ missing. with_missing stm.track.stay (missed missing)) p
+        ∙ ap (λ area. record { area = area; line = stm.track.stay.line; missing = Some 0 }) full
 
 -- ---- the speed of the stay
 
 module _ (stm : Stm) (x : Sent) (e : is_accepted (answer_to stm x) ≡ true) (four : area_is (state_after stm x) ≡ 4)
     (anew : (not (eqb (area_is stm) 4) || passes_event 1 x.command) ≡ true) where
-  abbrev line_at : LineSpeed
-  line_at = cond (passes_event 1 x.command) (LineSpeed.Board (event_speed_of x.command)) LineSpeed.Dark
+  abbrev line_at : Option ℕ
+  line_at = cond (passes_event 1 x.command) (Some (event_speed_of x.command)) None
 
   -- a command that is no event was not in the partial area before
   elsewhere : is_of Code.AreaEvent x.command ≡ false → area_is (state_after stm x) ≡ area_is stm → ⊥
@@ -587,8 +587,8 @@ module _ (stm : Stm) (x : Sent) (e : is_accepted (answer_to stm x) ≡ true) (fo
       let t : eqb (area_is stm) 4 ≡ true = eq-eqb (area_is stm) 4 (sym same ∙ four) in
       false≢true (rw (t, o) at anew)
 
-  no_board : is_of Code.AreaEvent x.command ≡ false → line_at ≡ LineSpeed.Dark
-  no_board o = ap (λ t. cond (t && eqb (first_operand x.command) 1) (LineSpeed.Board (event_speed_of x.command)) LineSpeed.Dark) o
+  no_board : is_of Code.AreaEvent x.command ≡ false → line_at ≡ None
+  no_board o = ap (λ t. cond (t && eqb (first_operand x.command) 1) (Some (event_speed_of x.command)) None) o
 
   is_partial : (stay : Stay) → area_number stay.area ≡ 4 → stay.area ≡ Area.Partial
   is_partial stay h = partial_is stay.area (eq-eqb (area_number stay.area) 4 h)
@@ -601,7 +601,7 @@ module _ (stm : Stm) (x : Sent) (e : is_accepted (answer_to stm x) ≡ true) (fo
 
       line_is : line_by (event_of (first_operand x.command)) (event_speed_of x.command) ≡ line_at
       line_is =
-          ap (λ t. cond t (LineSpeed.Board (event_speed_of x.command)) LineSpeed.Dark)
+          ap (λ t. cond t (Some (event_speed_of x.command)) None)
           (event_gmd (first_operand x.command) ∙ ap (λ t. t && eqb (first_operand x.command) 1) (sym o))
 
       by : (t : Bool) → eqb (first_operand x.command) 3 ≡ t → (state_after stm x).track.stay ≡ begun_stay Area.Partial line_at
@@ -644,4 +644,4 @@ module _ (stm : Stm) (x : Sent) (e : is_accepted (answer_to stm x) ≡ true) (fo
 pub speed_is_the_stays : SpeedIsTheStays
 speed_is_the_stays stm x ys h =
     let first = entered_anew stm x h.accepted h.partial h.anew (is_of Code.AreaEvent x.command) refl in
-    stay_stays (state_after stm x) ys (ap (λ stay. stay.overlap) first) h.alone ∙ first
+    stay_stays (state_after stm x) ys (ap (λ stay. stay.missing) first) h.alone ∙ first

@@ -12,15 +12,16 @@ use native.Mathlib.Decide.{ℕ_discrete}
 use lib.Dec.{eqb, leb, ltb}
 use lib.ListN.{length}
 use borrow.Author.Tests.{ltb-true, ltb-false, eqb-true, not-false, le-ltb, le-leb, lt-leb, eq-eqb, ne_eqb}
+use Rattle.std.specs.Prelude.{Option, Some, None}
 use Rattle.laws.proofs.Lists.{never, ◌∈◌, not_true_false}
 use Rattle.wire.specs.Numbers.{byte_at}
 use Rattle.wire.specs.Codes.{commands}
-use Rattle.wire.specs.declared.form.Form.{Form}
+use Rattle.std.specs.Prelude.{Result, Ok, Err, ⊤}
+use Rattle.wire.specs.declared.form.FormError.{FormError}
 use Rattle.wire.specs.Form.{form_of, refusal_of, operands_of}
 use Rattle.interval.specs.Intervals.{rank_of}
 use Rattle.places.specs.Places.{permitted_here, least_permitted}
 use Rattle.areas.specs.declared.Area.{Area}
-use Rattle.areas.specs.declared.LineSpeed.{LineSpeed}
 use Rattle.areas.specs.declared.Stay.{Stay}
 use Rattle.areas.specs.Numbers.{is_area}
 use Rattle.areas.specs.Stays.{line_speed, area_speed}
@@ -52,11 +53,11 @@ codes_are_the_table = (refl, code_told)
 
 pub first_four_are_wire : FirstFourAreWire
 unfolding refusal_of
-first_four_are_wire Form.WrongArea n whole e = cc e
-first_four_are_wire Form.NoBytes n whole e = cc e
-first_four_are_wire Form.NoCode n whole e = cc e
-first_four_are_wire Form.WrongLength n whole e = cc e
-first_four_are_wire Form.Whole n whole e = absurd (never (cc))
+first_four_are_wire (Err FormError.WrongArea) n whole e = cc e
+first_four_are_wire (Err FormError.NoBytes) n whole e = cc e
+first_four_are_wire (Err FormError.NoCode) n whole e = cc e
+first_four_are_wire (Err FormError.WrongLength) n whole e = cc e
+first_four_are_wire (Ok passed) n whole e = absurd (never (cc))
 
 -- ---- refusal 13
 
@@ -77,14 +78,14 @@ unfolding any_of
 given_one [] e = absurd (false≢true e)
 given_one (r ∷ rs) e = given_first r rs r.applies (given_one rs) e
 
-given_whole : (form : Form) (stm : Stm) (command : List ℕ) → is_all_held (answer_for form (whole_answer stm command)) ≡ true
+given_whole : (form : Result ⊤ FormError) (stm : Stm) (command : List ℕ) → is_all_held (answer_for form (whole_answer stm command)) ≡ true
     → finds_no_place stm (code_of (code_byte command)) (operands_of command) ≡ true
 unfolding rules_for any_of
-given_whole Form.WrongArea stm command e = absurd (false≢true e)
-given_whole Form.NoBytes stm command e = absurd (false≢true e)
-given_whole Form.NoCode stm command e = absurd (false≢true e)
-given_whole Form.WrongLength stm command e = absurd (false≢true e)
-given_whole Form.Whole stm command e =
+given_whole (Err FormError.WrongArea) stm command e = absurd (false≢true e)
+given_whole (Err FormError.NoBytes) stm command e = absurd (false≢true e)
+given_whole (Err FormError.NoCode) stm command e = absurd (false≢true e)
+given_whole (Err FormError.WrongLength) stm command e = absurd (false≢true e)
+given_whole (Ok passed) stm command e =
     let code = code_of (code_byte command) in
     let s = operands_of command in
     sym (or-false (finds_no_place stm code s)) ∙ given_one (rules_for stm command code s) e
@@ -181,13 +182,13 @@ module _ {A : Type 0} (held : A → Bool) (speed : A → ℕ) (base limit : ℕ)
   )
 
 -- the area's part
-line_up_to : (line : LineSpeed) (n : ℕ) → n ≤ line_speed line → UpToLine line n
-line_up_to LineSpeed.Dark n h = h
-line_up_to (LineSpeed.Board speed) n h = h
+line_up_to : (line : Option ℕ) (n : ℕ) → n ≤ line_speed line → UpToLine line n
+line_up_to None n h = h
+line_up_to (Some speed) n h = h
 
-up_to_line : (line : LineSpeed) (n : ℕ) → UpToLine line n → n ≤ line_speed line
-up_to_line LineSpeed.Dark n h = h
-up_to_line (LineSpeed.Board speed) n h = h
+up_to_line : (line : Option ℕ) (n : ℕ) → UpToLine line n → n ≤ line_speed line
+up_to_line None n h = h
+up_to_line (Some speed) n h = h
 
 module _ (base n : ℕ) (stay : Stay) where
   area_up_to : n ≤ area_speed base stay → stay.area ≡ Area.Partial → UpToLine stay.line n

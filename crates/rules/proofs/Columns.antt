@@ -1,4 +1,5 @@
 -- The columns of the table of causes say what 01's table says. Assumes nothing.
+use Rattle.std.specs.Prelude.{Option}
 use mathlib.Core.Path.{◌≡◌, refl, sym, ◌∙◌, ap}
 use Prim.Native.Nat.{ℕ, ◌+◌, ◌*◌, ◌≤◌, ◌<◌}
 use native.Mathlib.Nat.{le_trans}
@@ -35,7 +36,6 @@ use Rattle.rules.specs.Columns.{vmax_is, IsFast, BrakesFrom, is_short, CurveOrde
 use Rattle.rules.specs.declared.Cause.{Cause}
 use Rattle.rules.specs.declared.Causes.{Causes}
 use Rattle.rules.specs.declared.Hold.{Hold}
-use Rattle.rules.specs.declared.Roll.{Roll}
 use Rattle.rules.specs.declared.Seen.{Seen}
 use Rattle.rules.specs.declared.Stm.{Stm}
 use Rattle.rules.proofs.Tests.{impossible, both, and_both, either, or_left, or_right, if_made, if_used}
@@ -274,7 +274,7 @@ module _ (stm : Stm) (x : Sent) (e : is_accepted (answer_to stm x) ≡ true) (u 
   abbrev measured : Stm
   measured = measured_at stm x.command
 
-  abbrev seen_rolled : Roll → Seen
+  abbrev seen_rolled : Option ℕ → Seen
   seen_rolled roll =
       seen_of measured.train measured.track measured.feedback measured.kept measured.brakes.since roll
 
@@ -282,7 +282,7 @@ module _ (stm : Stm) (x : Sent) (e : is_accepted (answer_to stm x) ≡ true) (u 
   unfolding seen_at seen_in
   seen_at_lem = refl
 
-  orders_alike : (roll roll' : Roll) (fault : Bool) (cause : Cause) → bit_number cause ≤ 9
+  orders_alike : (roll roll' : Option ℕ) (fault : Bool) (cause : Cause) → bit_number cause ≤ 9
       → ordered_at (seen_rolled roll) fault cause ≡ ordered_at (seen_rolled roll') fault cause
   unfolding seen_of seen_with curve_orders
   orders_alike roll roll' fault Cause.Overspeed h = refl

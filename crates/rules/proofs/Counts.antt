@@ -1,4 +1,5 @@
 -- What a report in DA and the commands 30 and 32 keep of the brake checks, of the rolled ground and of DRIFTBROMSFEL.
+use Rattle.std.specs.Prelude.{Option, None, Some}
 use mathlib.Core.Path.{◌≡◌, refl, sym, ◌∙◌}
 use Prim.Native.Nat.{ℕ, ◌+◌, ◌≤◌, min}
 use native.Mathlib.Omega.{arith}
@@ -18,7 +19,6 @@ use Rattle.rules.specs.declared.Causes.{Causes}
 use Rattle.rules.specs.declared.Order.{Order}
 use Rattle.rules.specs.declared.Hold.{Hold}
 use Rattle.rules.specs.declared.Check.{Check}
-use Rattle.rules.specs.declared.Roll.{Roll}
 use Rattle.rules.specs.declared.Brakes.{Brakes}
 use Rattle.rules.specs.declared.Train.{Train}
 use Rattle.rules.specs.declared.Reading.{Reading}
@@ -30,23 +30,23 @@ use Rattle.rules.proofs.Tests.{impossible, and_left, and_right, and_mono, not_mo
 check_at : (before after : Bool) (limit : ℕ) (dropped : Bool) (check : Check) → (before ≡ true → after ≡ true) → 1 ≤ limit
     → is_check_sound before limit check ≡ true → is_check_sound after limit (checked_at before after limit dropped check) ≡ true
 unfolding checked_at
-check_at true true limit dropped Check.Idle h some e = impossible e
-check_at true true limit dropped (Check.Counting count) h some e =
+check_at true true limit dropped Check.Idle h least e = impossible e
+check_at true true limit dropped (Check.Counting count) h least e =
     cond_by (λ new. is_check_sound true limit new ≡ true) (dropped || leb limit (count + 1)) Check.Done (Check.Counting (count + 1))
     (λ _. refl)
     (λ t. lt-ltb (count + 1) limit (leb-false limit (count + 1) (neither dropped (leb limit (count + 1)) t).1))
-check_at true true limit dropped Check.Done h some e = refl
-check_at true false limit dropped check h some e = impossible (h refl)
-check_at false true limit dropped check h some e = lt-ltb 0 limit some
-check_at false false limit dropped check h some e = refl
+check_at true true limit dropped Check.Done h least e = refl
+check_at true false limit dropped check h least e = impossible (h refl)
+check_at false true limit dropped check h least e = lt-ltb 0 limit least
+check_at false false limit dropped check h least e = refl
 
 check_by : (before after : Bool) (limit : ℕ) (check : Check) → (before ≡ true → after ≡ true) → 1 ≤ limit
     → is_check_sound before limit check ≡ true → is_check_sound after limit (checked_by before after check) ≡ true
 unfolding checked_by
-check_by true true limit check h some e = e
-check_by true false limit check h some e = impossible (h refl)
-check_by false true limit check h some e = lt-ltb 0 limit some
-check_by false false limit check h some e = refl
+check_by true true limit check h least e = e
+check_by true false limit check h least e = impossible (h refl)
+check_by false true limit check h least e = lt-ltb 0 limit least
+check_by false false limit check h least e = refl
 
 check_left_lem : (left before : Bool) (limit : ℕ) (check : Check) → (left ≡ true → before ≡ true)
     → is_check_sound before limit check ≡ true → is_check_sound left limit (check_left left check) ≡ true
@@ -57,24 +57,24 @@ check_left_lem false before limit check h e = refl
 
 -- ---- the rolled ground
 
-rolled_sound : (moved : ℕ) (roll : Roll) → is_roll_sound (rolled_on moved roll) ≡ true
-rolled_sound moved Roll.Ended = refl
-rolled_sound moved (Roll.Rolled covered) = le-leb (min 501 (covered + moved)) 501 (omega arith)
+rolled_sound : (moved : ℕ) (roll : Option ℕ) → is_roll_sound (rolled_on moved roll) ≡ true
+rolled_sound moved None = refl
+rolled_sound moved (Some covered) = le-leb (min 501 (covered + moved)) 501 (omega arith)
 
-roll_at_lem : (r : Reading) (roll : Roll) → is_roll_sound (roll_at r roll) ≡ true
+roll_at_lem : (r : Reading) (roll : Option ℕ) → is_roll_sound (roll_at r roll) ≡ true
 unfolding roll_at
 roll_at_lem r roll = go (is_halt r) r.neutral
   where
-    go : (halt neutral : Bool) → is_roll_sound (cond halt (Roll.Rolled 0) (cond neutral (rolled_on r.moved roll) Roll.Ended)) ≡ true
+    go : (halt neutral : Bool) → is_roll_sound (cond halt (Some 0) (cond neutral (rolled_on r.moved roll) None)) ≡ true
     go true neutral = refl
     go false true = rolled_sound r.moved roll
     go false false = refl
 
-back_sound : (roll : Roll) → is_roll_sound (roll_back roll) ≡ true
-back_sound Roll.Ended = refl
-back_sound (Roll.Rolled covered) = refl
+back_sound : (roll : Option ℕ) → is_roll_sound (roll_back roll) ≡ true
+back_sound None = refl
+back_sound (Some covered) = refl
 
-roll_left_lem : (stood left : Bool) (roll : Roll) → is_roll_sound roll ≡ true → is_roll_sound (roll_left stood left roll) ≡ true
+roll_left_lem : (stood left : Bool) (roll : Option ℕ) → is_roll_sound roll ≡ true → is_roll_sound (roll_left stood left roll) ≡ true
 unfolding roll_left
 roll_left_lem stood left roll e =
     cond_by (λ x. is_roll_sound x ≡ true) (stood && not left) (roll_back roll) roll (λ _. back_sound roll) (λ _. e)

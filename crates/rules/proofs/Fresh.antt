@@ -7,6 +7,7 @@ use mathlib.Core.List.{List}
 use lib.Dec.{eqb}
 use lib.ListN.{get_or, replicate}
 use borrow.Author.Tests.{leb-true, ne_eqb}
+use Rattle.std.specs.Prelude.{None}
 use Rattle.wire.specs.Form.{operands_of}
 use Rattle.pressure.specs.Report.{fresh_feedback}
 use Rattle.rules.specs.Numbers.{is_accepted, is_code, is_state, code_of, state_of}
@@ -20,7 +21,6 @@ use Rattle.rules.specs.Releases.{fresh_brakes, released_brakes}
 use Rattle.rules.specs.Odometer.{with_state, with_brakes, seen_in, moves, measures, notes, adds, releases, is_fresh, supervised, reported_in}
 use Rattle.rules.specs.Commands.{fresh_kept, fresh_with, entered, stopped, carried_out}
 use Rattle.rules.specs.BrakeTest.{fresh_test}
-use Rattle.areas.specs.declared.Overlap.{Overlap}
 use Rattle.areas.specs.declared.Stay.{Stay}
 use Rattle.areas.specs.Stays.{fresh_stay, cleared_stay}
 use Rattle.rules.specs.Runs.{Sent, answer_to, state_after, is_of}
@@ -43,14 +43,14 @@ free_everywhere zero i free = refl
 free_everywhere (suc n) zero free = refl
 free_everywhere (suc n) (suc i) free = free_everywhere n i free
 
-holds_nothing : (stm : Stm) (stay : Stay) → stm.track ≡ empty_track stay → stay.overlap ≡ Overlap.Present → stm.brakes ≡ fresh_brakes
+holds_nothing : (stm : Stm) (stay : Stay) → stm.track ≡ empty_track stay → stay.missing ≡ None → stm.brakes ≡ fresh_brakes
     → HoldsNothing stm
 unfolding empty_track fresh_brakes no_causes
 holds_nothing stm stay t o b = record {
   curves = λ place. rw (t, free_everywhere places place free_curve);
   sections = λ place. rw (t, free_everywhere places place free_section);
   forty = rw t;
-  overlap = rw t o;
+  missing = rw t o;
   records = λ place. rw (t, free_everywhere record_places place free_record);
   causes = λ cause. rw b (stands_for (λ each. false) cause);
   aimed = rw b;

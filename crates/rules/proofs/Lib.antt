@@ -1,3 +1,4 @@
+pub mod Equality
 pub mod Tests
 pub mod Told
 pub mod Answers

@@ -10,7 +10,7 @@ use borrow.Author.Tests.{not-true, not-false}
 use Rattle.wire.specs.Codes.{longest}
 use Rattle.wire.specs.Numbers.{byte_at, number}
 use Rattle.wire.specs.Form.{report_length, form_of, operands_of}
-use Rattle.wire.specs.declared.form.Form.{Form}
+use Rattle.std.specs.Prelude.{Ok}
 use Rattle.wire.proofs.Commands.{whole_area}
 use Rattle.wire.proofs.Equal.{equal_same}
 use Rattle.rules.specs.Numbers.{is_answered, code_of, state_of, is_code, is_state, is_accepted, is_refused}
@@ -116,15 +116,15 @@ again_among started start number repeat next failed rest e f g =
 
 again_first : (stm : Stm) (command : List ℕ)
     → stm.control.started ≡ true → eqb (number_of command) 0 ≡ false → is_repeat stm command ≡ true
-    → answer_for Form.Whole (whole_answer stm command) ≡ Answer.Again
+    → answer_for (Ok tt) (whole_answer stm command) ≡ Answer.Again
 unfolding rules_for
 again_first stm command e f g =
     again_among stm.control.started (is_start command) (eqb (number_of command) 0) (is_repeat stm command) (is_next stm command)
     (is_state State.FA stm.control.state) _ e f g
 
 -- a command that is whole with one area is whole with every area of 14 bytes
-whole_again : (command : List ℕ) (area area' : ℕ) → form_of command area ≡ Form.Whole → area' ≡ report_length
-    → form_of command area' ≡ Form.Whole
+whole_again : (command : List ℕ) (area area' : ℕ) → form_of command area ≡ Ok tt → area' ≡ report_length
+    → form_of command area' ≡ Ok tt
 whole_again command area area' e f = rw (f, sym (whole_area command area e)) e
 
 answer_again : (stm : Stm) (x : Sent) (area' : ℕ) → is_accepted (answer_to stm x) ≡ true → area' ≡ report_length

@@ -10,7 +10,8 @@ use lib.Dec.{eqb, leb}
 use lib.ListN.{get_or, length}
 use borrow.Author.Tests.{leb-true, le-leb, lt-leb, eqb-true, eqb-false}
 use Rattle.wire.specs.Numbers.{byte_at}
-use Rattle.wire.specs.declared.form.Form.{Form}
+use Rattle.std.specs.Prelude.{Result, Ok, Err, ⊤}
+use Rattle.wire.specs.declared.form.FormError.{FormError}
 use Rattle.wire.specs.Form.{form_of, operands_of}
 use Rattle.curve.specs.declared.Interval.{Interval}
 use Rattle.curve.specs.Deceleration.{level_of}
@@ -190,14 +191,14 @@ module _ (stm : Stm) (command : List ℕ) where
       ∙ ended_late (leb (first_operand command) 254) (is_track_state stm) (is_held stm (first_operand command))
 
 -- with any form
-by_form : (code : Code) (told : ℕ) (form : Form) (stm : Stm) (command : List ℕ) → Answers stm command code told → is_of code command ≡ true
+by_form : (code : Code) (told : ℕ) (form : Result ⊤ FormError) (stm : Stm) (command : List ℕ) → Answers stm command code told → is_of code command ≡ true
     → is_judged (answer_number (answer_for form (whole_answer stm command))) ≡ true
     → answer_number (answer_for form (whole_answer stm command)) ≡ told
-by_form code told Form.WrongArea stm command h c e = impossible e
-by_form code told Form.NoBytes stm command h c e = impossible e
-by_form code told Form.NoCode stm command h c e = impossible e
-by_form code told Form.WrongLength stm command h c e = impossible e
-by_form code told Form.Whole stm command h c e =
+by_form code told (Err FormError.WrongArea) stm command h c e = impossible e
+by_form code told (Err FormError.NoBytes) stm command h c e = impossible e
+by_form code told (Err FormError.NoCode) stm command h c e = impossible e
+by_form code told (Err FormError.WrongLength) stm command h c e = impossible e
+by_form code told (Ok passed) stm command h c e =
     subst (λ is. Answers stm command is told) (sym (code_is code (code_of (code_byte command)) c)) h e
 
 pub record_is_answered : RecordIsAnswered

@@ -9,7 +9,8 @@ use lib.Dec.{eqb}
 use lib.ListN.{length}
 use borrow.Author.Tests.{eqb-true, not-true, not-false}
 use Rattle.wire.specs.Codes.{longest}
-use Rattle.wire.specs.declared.form.Form.{Form}
+use Rattle.std.specs.Prelude.{Result, Ok, Err, ⊤}
+use Rattle.wire.specs.declared.form.FormError.{FormError}
 use Rattle.wire.specs.Form.{form_of, operands_of}
 use Rattle.wire.specs.Numbers.{number}
 use Rattle.wire.proofs.Equal.{same_equal}
@@ -49,13 +50,13 @@ rules_spare : (stm : Stm) (command : List ℕ) → is_repeat stm command ≡ fal
 unfolding rules_for
 rules_spare stm command e = list_spares (rules_for stm command (code_of (code_byte command)) (operands_of command)) (rw e)
 
-form_spares : (form : Form) (stm : Stm) (command : List ℕ) → is_repeat stm command ≡ false
+form_spares : (form : Result ⊤ FormError) (stm : Stm) (command : List ℕ) → is_repeat stm command ≡ false
     → is_again (answer_for form (whole_answer stm command)) ≡ false
-form_spares Form.WrongArea stm command e = refl
-form_spares Form.NoBytes stm command e = refl
-form_spares Form.NoCode stm command e = refl
-form_spares Form.WrongLength stm command e = refl
-form_spares Form.Whole stm command e = rules_spare stm command e
+form_spares (Err FormError.WrongArea) stm command e = refl
+form_spares (Err FormError.NoBytes) stm command e = refl
+form_spares (Err FormError.NoCode) stm command e = refl
+form_spares (Err FormError.WrongLength) stm command e = refl
+form_spares (Ok passed) stm command e = rules_spare stm command e
 
 only_repeats : (stm : Stm) (x : Sent) → is_repeat stm x.command ≡ false → is_again (answer_to stm x) ≡ false
 unfolding call_of answer_of

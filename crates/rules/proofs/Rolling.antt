@@ -1,5 +1,6 @@
 -- Rolling over a list of commands: the count is the ground of the reports since the last halt, or since a later drop of bit 10.
 -- Assumes nothing.
+use Rattle.std.specs.Prelude.{Option, None, Some}
 use mathlib.Core.Path.{◌≡◌, refl, sym, ◌∙◌, ap, ap₂}
 use Prim.Native.Nat.{ℕ, ◌+◌, min}
 use native.Mathlib.Omega.{arith}
@@ -22,7 +23,6 @@ use Rattle.rules.specs.Rolling.{Rolls, rolls_of, drops_rolling, rolls_after, rol
 use Rattle.rules.specs.declared.Code.{Code}
 use Rattle.rules.specs.declared.State.{State}
 use Rattle.rules.specs.declared.Cause.{Cause}
-use Rattle.rules.specs.declared.Roll.{Roll}
 use Rattle.rules.specs.declared.Brakes.{Brakes}
 use Rattle.rules.specs.declared.Stm.{Stm}
 use Rattle.rules.proofs.Answers.{after_other, passed}
@@ -41,32 +41,32 @@ ground_since rs = sum (map (λ r. r.moved) (since_last (λ r. r.drops) (since_ha
 abbrev counts : List Rolls → Bool
 counts rs = any_of (λ r. r.halt) rs && all_of (λ r. r.neutral) (since_halt rs)
 
-abbrev roll_of : List Rolls → Roll
-roll_of rs = cond (counts rs) (Roll.Rolled (min 501 (ground_since rs))) Roll.Ended
+abbrev roll_of : List Rolls → Option ℕ
+roll_of rs = cond (counts rs) (Some (min 501 (ground_since rs))) None
 
 -- one report: a halt, neutral, its ground, and whether bit 10 is dropped at it
-abbrev rolls : Bool → Bool → ℕ → Roll → Roll
-rolls halt neutral moved roll = cond halt (Roll.Rolled 0) (cond neutral (rolled_on moved roll) Roll.Ended)
+abbrev rolls : Bool → Bool → ℕ → Option ℕ → Option ℕ
+rolls halt neutral moved roll = cond halt (Some 0) (cond neutral (rolled_on moved roll) None)
 
-abbrev dropped : Bool → Roll → Roll
+abbrev dropped : Bool → Option ℕ → Option ℕ
 dropped drops roll = cond drops (roll_back roll) roll
 
 more_ground : (moved covered : ℕ) → min 501 (min 501 covered + moved) ≡ min 501 (moved + covered)
 more_ground moved covered = omega arith
 
 rolled_more : (drops t : Bool) (moved covered : ℕ)
-    → dropped drops (rolled_on moved (cond t (Roll.Rolled (min 501 covered)) Roll.Ended))
-    ≡ cond t (Roll.Rolled (min 501 (cond drops 0 (moved + covered)))) Roll.Ended
+    → dropped drops (rolled_on moved (cond t (Some (min 501 covered)) None))
+    ≡ cond t (Some (min 501 (cond drops 0 (moved + covered)))) None
 rolled_more true true moved covered = refl
 rolled_more true false moved covered = refl
-rolled_more false true moved covered = ap Roll.Rolled (more_ground moved covered)
+rolled_more false true moved covered = ap Some (more_ground moved covered)
 rolled_more false false moved covered = refl
 
-ended_dropped : (drops : Bool) → dropped drops Roll.Ended ≡ Roll.Ended
+ended_dropped : (drops : Bool) → dropped drops None ≡ None
 ended_dropped true = refl
 ended_dropped false = refl
 
-halted_dropped : (drops : Bool) → dropped drops (Roll.Rolled 0) ≡ Roll.Rolled 0
+halted_dropped : (drops : Bool) → dropped drops (Some 0) ≡ Some 0
 halted_dropped true = refl
 halted_dropped false = refl
 
@@ -86,7 +86,7 @@ roll_on true neutral moved drops rs = halted_dropped drops
 roll_on false false moved drops rs = rw (and-false (any_of (λ r. r.halt) rs)) (ended_dropped drops)
 roll_on false true moved drops rs =
     rolled_more drops (counts rs) moved (ground_since rs)
-    ∙ ap (λ covered. cond (counts rs) (Roll.Rolled (min 501 covered)) Roll.Ended)
+    ∙ ap (λ covered. cond (counts rs) (Some (min 501 covered)) None)
     (sym (ground_more drops moved (rolls_are false true moved drops) (since_last (λ r. r.drops) (since_halt rs))))
 
 -- it is over 500 exactly where the ground is
@@ -97,7 +97,7 @@ over_501 covered =
       | no h ↦ le-ltb 500 (min 501 covered) (omega (arith, h)) ∙ sym (le-ltb 500 covered (omega (arith, h)))
     ]
 
-rolled_is : (t : Bool) (covered : ℕ) → is_rolled (cond t (Roll.Rolled (min 501 covered)) Roll.Ended) ≡ (t && ltb 500 covered)
+rolled_is : (t : Bool) (covered : ℕ) → is_rolled (cond t (Some (min 501 covered)) None) ≡ (t && ltb 500 covered)
 rolled_is true covered = over_501 covered
 rolled_is false covered = refl
 
@@ -113,7 +113,7 @@ drop_told false true = refl
 drop_told false false = refl
 
 module _ (stm : Stm) (x : Sent) where
-  abbrev rolls_now : Roll → Roll
+  abbrev rolls_now : Option ℕ → Option ℕ
   rolls_now roll = rolls (is_halt_of x.command) (button_of 3 x.command) (moved_of x.command) roll
 
   -- bit 10 is ordered where the count, with this report, is over 500
@@ -158,7 +158,7 @@ Counted stm rs = (is_in State.FA stm ≡ true) ⊎ (stm.brakes.roll ≡ roll_of 
 
 other_roll : (code : Code) (which : ℕ) (before after : Brakes) → ByOther code which before after → after.roll ≡ before.roll
 unfolding brakes_by
-other_roll code which before after (unchanged none e) = ap (λ b. b.roll) e
+other_roll code which before after (unchanged same e) = ap (λ b. b.roll) e
 other_roll code which before after (orders v e) = ap (λ b. b.roll) e
 
 -- in FA only a start is taken
@@ -207,7 +207,7 @@ counted_over stm (x ∷ xs) rs c =
     counted_over (state_after stm x) xs (rolls_after rs stm x)
     (counted_once stm x rs (is_accepted (answer_to stm x)) (freshens x.command) (is_supervised stm x.command) refl refl refl c)
 
-counted_first : (stm : Stm) → stm.brakes.roll ≡ Roll.Ended → Counted stm []
+counted_first : (stm : Stm) → stm.brakes.roll ≡ None → Counted stm []
 unfolding any_of
 counted_first stm e = inr e
 

@@ -8,8 +8,8 @@ use lib.ListN.{length, drop}
 use Rattle.wire.specs.Numbers.{byte_at}
 use Rattle.wire.specs.Codes.{length_of, longest}
 use Rattle.wire.specs.Form.{form_of}
-use Rattle.wire.specs.declared.form.Form.{Form}
-use Rattle.wire.specs.declared.codes.Length.{Length}
+use Rattle.std.specs.Prelude.{Result, Ok, Err, ⊤, Option, None, Some}
+use Rattle.wire.specs.declared.form.FormError.{FormError}
 use Rattle.wire.proofs.Commands.{whole_length}
 use Rattle.wire.proofs.Equal.{same_equal}
 use Rattle.wire.proofs.Table.{lengths_within}
@@ -38,12 +38,12 @@ padded_equal zero (x ∷ s) (y ∷ t) h k e = absurd (not-suc-le-zero k)
 padded_equal (suc n) (x ∷ s) (y ∷ t) h k e =
     ap₂ ◌∷◌ (ap (λ bytes. byte_at bytes 0) e) (padded_equal n s t (suc_inj h) (le_of_suc-le-suc k) (ap (λ bytes. drop 1 bytes) e))
 
-bytes_of : Length → ℕ
-bytes_of Length.NoCode = 0
-bytes_of (Length.Bytes n) = n
+bytes_of : Option ℕ → ℕ
+bytes_of None = 0
+bytes_of (Some n) = n
 
 -- whole commands with the same first byte are as long
-same_length : (s t : List ℕ) (a b : ℕ) → form_of s a ≡ Form.Whole → form_of t b ≡ Form.Whole → byte_at t 0 ≡ byte_at s 0
+same_length : (s t : List ℕ) (a b : ℕ) → form_of s a ≡ Ok tt → form_of t b ≡ Ok tt → byte_at t 0 ≡ byte_at s 0
     → length t ≡ length s
 unfolding bytes_of
 same_length s t a b e f first = ap bytes_of (sym (whole_length t b f) ∙ ap length_of first ∙ whole_length s a e)
@@ -52,7 +52,7 @@ first_kept : (n : ℕ) (s : List ℕ) → byte_at (padded (suc n) s) 0 ≡ byte_
 unfolding padded
 first_kept n s = refl
 
-whole_equal : (s t : List ℕ) (a b : ℕ) → form_of s a ≡ Form.Whole → form_of t b ≡ Form.Whole
+whole_equal : (s t : List ℕ) (a b : ℕ) → form_of s a ≡ Ok tt → form_of t b ≡ Ok tt
     → padded longest t ≡ padded longest s → t ≡ s
 whole_equal s t a b e f same =
     let first = sym (first_kept 23 t) ∙ ap (λ bytes. byte_at bytes 0) same ∙ first_kept 23 s in
@@ -60,14 +60,14 @@ whole_equal s t a b e f same =
 
 -- ---- answers
 
-again_whole : (form : Form) (stm : Stm) (command : List ℕ) → is_again (answer_for form (whole_answer stm command)) ≡ true → form ≡ Form.Whole
-again_whole Form.WrongArea stm command e = impossible e
-again_whole Form.NoBytes stm command e = impossible e
-again_whole Form.NoCode stm command e = impossible e
-again_whole Form.WrongLength stm command e = impossible e
-again_whole Form.Whole stm command e = refl
+again_whole : (form : Result ⊤ FormError) (stm : Stm) (command : List ℕ) → is_again (answer_for form (whole_answer stm command)) ≡ true → form ≡ Ok tt
+again_whole (Err FormError.WrongArea) stm command e = impossible e
+again_whole (Err FormError.NoBytes) stm command e = impossible e
+again_whole (Err FormError.NoCode) stm command e = impossible e
+again_whole (Err FormError.WrongLength) stm command e = impossible e
+again_whole (Ok passed) stm command e = refl
 
-again_form : (stm : Stm) (y : Sent) → answer_to stm y ≡ Answer.Again → form_of y.command (length y.area) ≡ Form.Whole
+again_form : (stm : Stm) (y : Sent) → answer_to stm y ≡ Answer.Again → form_of y.command (length y.area) ≡ Ok tt
 unfolding call_of answer_of
 again_form stm y e = again_whole (form_of y.command (length y.area)) stm y.command (ap is_again e)
 

@@ -5,13 +5,13 @@ use mathlib.Core.Bool.{true}
 use mathlib.Core.List.{List}
 use lib.Dec.{leb}
 use borrow.Author.Tests.{leb-true}
+use Rattle.std.specs.Prelude.{None}
 use Rattle.wire.specs.Numbers.{byte_at}
 use Rattle.wire.specs.Form.{operands_of}
-use Rattle.areas.specs.declared.Overlap.{Overlap}
 use Rattle.areas.specs.declared.Stay.{Stay}
 use Rattle.areas.specs.Numbers.{event_number, event_of}
 use Rattle.areas.specs.Rows.{is_taken}
-use Rattle.areas.specs.Stays.{fresh_stay, with_overlap, cleared_stay, passed_stay, covered_by, covered_stay}
+use Rattle.areas.specs.Stays.{fresh_stay, with_missing, cleared_stay, passed_stay, covered_by, covered_stay}
 use Rattle.areas.proofs.Told.{event_number_lem}
 use Rattle.rules.specs.Numbers.{is_accepted, code_of, state_of}
 use Rattle.rules.specs.Operands.{code_byte, reading_of, event_in, event_speed, event_speed_in_range, event_in_range, in_range}
@@ -111,7 +111,7 @@ stay_after stm x code e c =
 
 -- ---- where nothing pends
 
-pub covered_alone : (state : State) (moved : ℕ) (stay : Stay) → stay.overlap ≡ Overlap.Present → covered_in state moved stay ≡ stay
+pub covered_alone : (state : State) (moved : ℕ) (stay : Stay) → stay.missing ≡ None → covered_in state moved stay ≡ stay
 unfolding covered_stay
 covered_alone State.DE moved stay p = refl
 covered_alone State.CS moved stay p = refl
@@ -119,9 +119,9 @@ covered_alone State.HS moved stay p = ap (covered_by moved stay) p
 covered_alone State.DA moved stay p = ap (covered_by moved stay) p
 covered_alone State.FA moved stay p = refl
 
-pub entered_alone : (state : State) (stay : Stay) → stay.overlap ≡ Overlap.Present → entered_stay state stay ≡ stay
+pub entered_alone : (state : State) (stay : Stay) → stay.missing ≡ None → entered_stay state stay ≡ stay
 entered_alone State.DE stay p = refl
-entered_alone State.CS stay p = ap (with_overlap stay) (sym p)
+entered_alone State.CS stay p = ap (with_missing stay) (sym p)
 entered_alone State.HS stay p = refl
 entered_alone State.DA stay p = refl
 entered_alone State.FA stay p = refl

@@ -10,7 +10,8 @@ use lib.Dec.{eqb, ltb}
 use lib.Ieee.{Float}
 use lib.ListN.{length}
 use borrow.Author.Tests.{lt-ltb, ne_eqb, not-true, eqb-true}
-use Rattle.wire.specs.declared.form.Form.{Form}
+use Rattle.std.specs.Prelude.{Result, Ok, Err, ⊤}
+use Rattle.wire.specs.declared.form.FormError.{FormError}
 use Rattle.wire.specs.Form.{form_of, operands_of}
 use Rattle.wire.specs.Report.{order_in, messages_in}
 use Rattle.pressure.specs.declared.Measured.{Measured}
@@ -391,14 +392,14 @@ asked_whole stm command e =
     (is_in State.DE stm) (is_running stm.test.stage) e
     ∙ ap (λ runs. cond (is_in State.DE stm) (cond runs 15 0) 14) (test_runs stm.test.stage)
 
-asked_form : (form : Form) (stm : Stm) (command : List ℕ) → is_of Code.TestBrakes command ≡ true
+asked_form : (form : Result ⊤ FormError) (stm : Stm) (command : List ℕ) → is_of Code.TestBrakes command ≡ true
     → is_judged (answer_number (answer_for form (whole_answer stm command))) ≡ true
     → answer_number (answer_for form (whole_answer stm command)) ≡ cond (is_in State.DE stm) (cond (runs_in stm.test.stage) 15 0) 14
-asked_form Form.WrongArea stm command c e = impossible e
-asked_form Form.NoBytes stm command c e = impossible e
-asked_form Form.NoCode stm command c e = impossible e
-asked_form Form.WrongLength stm command c e = impossible e
-asked_form Form.Whole stm command c e =
+asked_form (Err FormError.WrongArea) stm command c e = impossible e
+asked_form (Err FormError.NoBytes) stm command c e = impossible e
+asked_form (Err FormError.NoCode) stm command c e = impossible e
+asked_form (Err FormError.WrongLength) stm command c e = impossible e
+asked_form (Ok passed) stm command c e =
     subst (AnsweredAs stm command) (sym (code_is Code.TestBrakes (code_of (code_byte command)) c)) (asked_whole stm command) e
 
 pub asking_is_answered : AskingIsAnswered

@@ -1,5 +1,6 @@
 -- One odometer report at two units, of which the second is the stricter: it stays so. Assumes nothing.
 use Prim.Native.Nat.{ℕ, ◌≤◌}
+use Rattle.std.specs.Prelude.{Option, None, Some}
 use mathlib.Core.Path.{◌≡◌, refl, sym, ◌∙◌, ap, ap₂}
 use mathlib.Core.Bool.{Bool, true, false, cond, false≢true}
 use native.Mathlib.Omega.{arith}
@@ -18,7 +19,6 @@ use Rattle.rules.specs.Odometer.{moves, measures, notes, adds, releases, is_fres
 use Rattle.rules.specs.TwoRuns.{TrainsCompared}
 use Rattle.rules.specs.declared.State.{State}
 use Rattle.rules.specs.declared.Cause.{Cause}
-use Rattle.rules.specs.declared.Roll.{Roll}
 use Rattle.rules.specs.declared.Brakes.{Brakes}
 use Rattle.rules.specs.declared.Train.{Train}
 use Rattle.rules.specs.declared.Reading.{Reading}
@@ -179,8 +179,8 @@ module _ {r r' : Reading} (readings : ReadingsBelow r r') where
   }
 
 -- nothing has rolled after a report without neutral
-not_rolled : (halt neutral : Bool) (on : Roll) → neutral ≡ false
-    → is_rolled (cond halt (Roll.Rolled 0) (cond neutral on Roll.Ended)) ≡ false
+not_rolled : (halt neutral : Bool) (on : Option ℕ) → neutral ≡ false
+    → is_rolled (cond halt (Some 0) (cond neutral on None)) ≡ false
 not_rolled true neutral on e = refl
 not_rolled false true on e = absurd (false≢true (sym e))
 not_rolled false false on e = refl

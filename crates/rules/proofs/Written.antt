@@ -9,6 +9,7 @@ use mathlib.Core.List.Memᴰ
 use mathlib.Core.List.{List, [], ◌∷◌, map}
 use lib.Dec.{eqb, ltb}
 use borrow.Author.Tests.{eqb-true, eqb-false, ne_eqb, ltb-false}
+use Rattle.std.specs.Prelude.{Option, Some, None}
 use Rattle.wire.specs.Report.{causes_in, permitted_in, vmax_in, shown_in, messages_in, offered_in}
 use Rattle.laws.proofs.Lists.{◌∈◌, not_true_false}
 use Rattle.wire.proofs.Values.{bytes_read, four_read}
@@ -25,7 +26,6 @@ use Rattle.places.proofs.Held.{held_judged, judged_held}
 use Rattle.colours.specs.Numbers.{showing_number, bar_number, mode_number}
 use Rattle.areas.specs.Numbers.{area_number}
 use Rattle.colours.specs.Rows.{rows, is_met, holds_for, passing, rows_for, row_of}
-use Rattle.colours.specs.declared.Showing.{Showing}
 use Rattle.colours.specs.declared.Row.{Row}
 use Rattle.colours.proofs.Claims.{one_row_holds, row_listed}
 use Rattle.rules.specs.Numbers.{is_accepted, is_state, order_number, bit_number}
@@ -64,6 +64,7 @@ use Rattle.rules.proofs.Claims.{not_lower_told, over_first, held_one, vmax_is_le
 use Rattle.rules.proofs.Columns.{listed, free_in, tells_by}
 use Rattle.rules.proofs.Bits.{bit_stands, twelve_bits, order_strongest, seven_bits, two_bits}
 use Rattle.rules.proofs.Supervising.{among_all, from_all, as_itself, as_held}
+use Rattle.curve.specs.declared.Shown.{Shown}
 
 -- ---- the report that is written is the unit's
 
@@ -330,12 +331,12 @@ module _ (stm : Stm) where
   field_of field none one is held = ap₂ (λ t c. cond t (field c) none) held (sym is)
 
   -- what is shown, where a curve is
-  showing : (one : Candidate) → one ≡ shown stm → (shown stm).judged.held ≡ true → showing_of (shown stm) ≡ Showing.Curve (shown_as one)
+  showing : (one : Candidate) → one ≡ shown stm → (shown stm).judged.held ≡ true → showing_of (shown stm) ≡ Some (shown_as one)
   unfolding showing_of
-  showing one is held = ap₂ (λ t c. cond t (Showing.Curve (shown_as c)) Showing.NoCurve) held (sym is)
+  showing one is held = ap₂ (λ t c. cond t (Some (shown_as c)) None) held (sym is)
 
   -- its row
-  by_row : (past sufficient : Bool) (what : Showing) → row_for stm (shown stm) ≡ row_of past sufficient what
+  by_row : (past sufficient : Bool) (what : Option Shown) → row_for stm (shown stm) ≡ row_of past sufficient what
       → ByRow past sufficient what (in_da stm)
   by_row past sufficient what e =
       let one = one_row_holds past sufficient what in
@@ -472,7 +473,7 @@ report_outside_da stm x e d =
 
 -- ---- the row of every report
 
-from_row : {past sufficient : Bool} {showing : Showing} {report : List ℕ} → ByRow past sufficient showing report
+from_row : {past sufficient : Bool} {showing : Option Shown} {report : List ℕ} → ByRow past sufficient showing report
     → shown_in report ≡ showing_number showing → FromRow report
 unfolding holds_for
 from_row {past} {sufficient} {showing} by e =

@@ -1,9 +1,7 @@
 -- Track areas over runs (02, F-6). Proved in proofs/.
-use Rattle.std.specs.Prelude.{◌≡◌, ℕ, ◌+◌, ◌≤◌, ◌<◌, Bool, true, false, cond, not, ◌&&◌, ◌||◌, ◌⊎◌, List, eqb, leb}
+use Rattle.std.specs.Prelude.{◌≡◌, ℕ, ◌+◌, ◌≤◌, ◌<◌, Bool, true, false, cond, not, ◌&&◌, ◌||◌, ◌⊎◌, List, eqb, leb, Some, None}
 use Rattle.wire.specs.Report.{area_in}
 use Rattle.areas.specs.declared.Area.{Area}
-use Rattle.areas.specs.declared.LineSpeed.{LineSpeed}
-use Rattle.areas.specs.declared.Overlap.{Overlap}
 use Rattle.areas.specs.Claims.{takes, enters}
 use Rattle.rules.specs.Numbers.{answer_number, is_accepted}
 use Rattle.rules.specs.Operands.{within}
@@ -46,9 +44,9 @@ EventIsAnswered =
 pub record EventDone (stm after : Stm) (command : List ℕ) : Type 0 where
   -- the row's area; a group without overlap leaves it, and begins to count ground unless another has
   pub area : area_is after ≡ cond (eqb (first_operand command) 3) (area_is stm) (enters (first_operand command))
-  pub followed : eqb (first_operand command) 3 ≡ false → after.track.stay.overlap ≡ Overlap.Present
-  pub group : first_operand command ≡ 3 → stm.track.stay.overlap ≡ Overlap.Present → after.track.stay.overlap ≡ Overlap.Missing 0
-  pub again : first_operand command ≡ 3 → (covered : ℕ) → stm.track.stay.overlap ≡ Overlap.Missing covered → after.track.stay ≡ stm.track.stay
+  pub followed : eqb (first_operand command) 3 ≡ false → after.track.stay.missing ≡ None
+  pub group : first_operand command ≡ 3 → stm.track.stay.missing ≡ None → after.track.stay.missing ≡ Some 0
+  pub again : first_operand command ≡ 3 → (covered : ℕ) → stm.track.stay.missing ≡ Some covered → after.track.stay ≡ stm.track.stay
   -- "An entering GMD deletes the sections", ending ones too, and no other event does
   pub deletes : enters_by_gmd stm command ≡ true → (place : ℕ) → (section_at place after).held ≡ false
   pub leaves : enters_by_gmd stm command ≡ false → after.track.sections ≡ stm.track.sections
@@ -73,7 +71,7 @@ EventIsDone =
 pub record FiftyMetres (stm after : Stm) (command : List ℕ) : Type 0 where
   pub moving : is_moving stm command ≡ true
   pub before : ℕ
-  pub pending : stm.track.stay.overlap ≡ Overlap.Missing before
+  pub pending : stm.track.stay.missing ≡ Some before
   pub reached : 5000 ≤ before + moved_of command
   pub from : area_is stm ≡ 8
   pub to : area_is after ≡ 4
@@ -97,7 +95,7 @@ AreaChangesBy =
 abbrev pub StayStays : Type 0
 StayStays =
     (stm : Stm) (xs : List Sent)
-    → stm.track.stay.overlap ≡ Overlap.Present
+    → stm.track.stay.missing ≡ None
     → none_accepted (λ before command. is_of Code.Start command || is_of Code.AreaEvent command) stm xs ≡ true
     → (state_at_end stm xs).track.stay ≡ stm.track.stay
 
@@ -113,15 +111,15 @@ ends_pending before command = freshens command || is_of Code.AreaEvent command &
 abbrev pub GroundIsCounted : Type 0
 GroundIsCounted =
     (stm : Stm) (x : Sent) (ys : List Sent)
-    → is_accepted (answer_to stm x) ≡ true → passes_event 3 x.command ≡ true → stm.track.stay.overlap ≡ Overlap.Present
+    → is_accepted (answer_to stm x) ≡ true → passes_event 3 x.command ≡ true → stm.track.stay.missing ≡ None
     → none_accepted ends_pending (state_after stm x) ys ≡ true
     → let covered = ground_over (state_after stm x) ys in
     let last = state_at_end (state_after stm x) ys in
     (covered < 5000
-    → (last.track.stay ≡ record { area = Area.Full; line = stm.track.stay.line; overlap = Overlap.Missing covered })
+    → (last.track.stay ≡ record { area = Area.Full; line = stm.track.stay.line; missing = Some covered })
     × (area_in last.last.report ≡ 8))
     × (5000 ≤ covered
-    → (last.track.stay ≡ record { area = Area.Partial; line = LineSpeed.Dark; overlap = Overlap.Present })
+    → (last.track.stay ≡ record { area = Area.Partial; line = None; missing = None })
     × (area_in last.last.report ≡ 4))
 
 -- ---- the speed of the stay
@@ -142,6 +140,6 @@ SpeedIsTheStays =
     → (state_at_end (state_after stm x) ys).track.stay
     ≡ record {
       area = Area.Partial;
-      line = cond (passes_event 1 x.command) (LineSpeed.Board (event_speed_of x.command)) LineSpeed.Dark;
-      overlap = Overlap.Present;
+      line = cond (passes_event 1 x.command) (Some (event_speed_of x.command)) None;
+      missing = None;
     }

@@ -1,14 +1,12 @@
 -- What holds of the parts of the rules: statements, proved in proofs/.
-use Rattle.std.specs.Prelude.{◌≡◌, ℕ, zero, suc, ◌+◌, ◌*◌, ◌≤◌, ◌<◌, true, false, eqb}
+use Rattle.std.specs.Prelude.{◌≡◌, ℕ, zero, suc, ◌+◌, ◌*◌, ◌≤◌, ◌<◌, true, false, eqb, Option, Some, None, Result, ⊤}
 use mathlib.Core.List.{List, [], ◌∷◌, map, Memᴰ}
-use Rattle.std.proofs.Math.Option.{some}
 use Rattle.wire.specs.Codes.{commands}
-use Rattle.wire.specs.declared.form.Form.{Form}
+use Rattle.wire.specs.declared.form.FormError.{FormError}
 use Rattle.wire.specs.Form.{refusal_of}
 use Rattle.curve.specs.declared.Curve.{Curve}
 use Rattle.curve.specs.declared.Judged.{Judged}
 use Rattle.areas.specs.declared.Area.{Area}
-use Rattle.areas.specs.declared.LineSpeed.{LineSpeed}
 use Rattle.rules.specs.Numbers.{answer_number, code_number, code_of}
 use Rattle.rules.specs.Places.{free_section, ending_section, moved_section}
 use Rattle.rules.specs.Speeds.{vmax_of, permitted_speed}
@@ -55,7 +53,7 @@ CodesAreTheTable =
 -- refusals 1 to 4 have the numbers that the table of codes and lengths gives them
 abbrev pub FirstFourAreWire : Type 0
 FirstFourAreWire =
-    (form : Form) (n : ℕ) (whole : Answer) → refusal_of form ≡ some n → answer_number (answer_for form whole) ≡ n
+    (form : Result ⊤ FormError) (n : ℕ) (whole : Answer) → refusal_of form ≡ Some n → answer_number (answer_for form whole) ≡ n
 
 -- ---- places
 
@@ -80,9 +78,9 @@ SectionEndsAtRear =
 -- ---- speeds
 
 -- 02, F-6: "the last GMD speed of this stay, the entering one included, or 130 if none was passed"
-abbrev pub UpToLine : LineSpeed → ℕ → Type 0
-UpToLine LineSpeed.Dark n = n ≤ 130
-UpToLine (LineSpeed.Board speed) n = n ≤ speed
+abbrev pub UpToLine : Option ℕ → ℕ → Type 0
+UpToLine None n = n ≤ 130
+UpToLine (Some speed) n = n ≤ speed
 
 -- VMAX is the least of its sources: no higher than any, and no lower than what is no higher than all. The area is a source in the
 -- partial area only

@@ -1,11 +1,9 @@
 -- What a start and entering a state leave (01, "Answers", last paragraph; 02, F-6 and F-7). Proved in proofs/.
-use Rattle.std.specs.Prelude.{◌≡◌, ℕ, true, false, ◌&&◌, ◌||◌}
+use Rattle.std.specs.Prelude.{◌≡◌, ℕ, true, false, ◌&&◌, ◌||◌, None}
 use Rattle.wire.specs.Form.{operands_of}
 use Rattle.pressure.specs.Convert.{kpa}
 use Rattle.pressure.specs.declared.Phase.{Phase}
 use Rattle.areas.specs.declared.Area.{Area}
-use Rattle.areas.specs.declared.LineSpeed.{LineSpeed}
-use Rattle.areas.specs.declared.Overlap.{Overlap}
 use Rattle.rules.specs.Numbers.{is_accepted}
 use Rattle.rules.specs.Operands.{train_of}
 use Rattle.rules.specs.Table.{stands}
@@ -16,7 +14,6 @@ use Rattle.rules.specs.declared.State.{State}
 use Rattle.rules.specs.declared.Cause.{Cause}
 use Rattle.rules.specs.declared.Hold.{Hold}
 use Rattle.rules.specs.declared.Check.{Check}
-use Rattle.rules.specs.declared.Roll.{Roll}
 use Rattle.rules.specs.declared.Stage.{Stage}
 use Rattle.rules.specs.declared.Verdict.{Verdict}
 use Rattle.rules.specs.declared.Stm.{Stm}
@@ -26,7 +23,7 @@ pub record HoldsNothing (stm : Stm) : Type 0 where
   pub curves : (place : ℕ) → (curve_at place stm).held ≡ false
   pub sections : (place : ℕ) → (section_at place stm).held ≡ false
   pub forty : stm.track.forty ≡ false
-  pub overlap : stm.track.stay.overlap ≡ Overlap.Present
+  pub missing : stm.track.stay.missing ≡ None
   -- 02, F-7: "There are eight records; entering CS drops them"
   pub records : (place : ℕ) → (record_at place stm).curve.held ≡ false
   pub causes : (cause : Cause) → stands stm.brakes.causes cause ≡ false
@@ -36,7 +33,7 @@ pub record HoldsNothing (stm : Stm) : Type 0 where
   pub balise : stm.brakes.since.balise ≡ Hold.Undecided
   pub service : stm.brakes.service ≡ Check.Idle
   pub emergency : stm.brakes.emergency ≡ Check.Idle
-  pub roll : stm.brakes.roll ≡ Roll.Ended
+  pub roll : stm.brakes.roll ≡ None
   pub drift : stm.brakes.drift ≡ false
   pub failed : stm.brakes.failed ≡ false
 
@@ -46,7 +43,7 @@ pub record IsFresh (stm : Stm) : Type 0 where
   pub nothing : HoldsNothing stm
   -- 02, F-6: "Fully equipped is the area after start"
   pub area : stm.track.stay.area ≡ Area.Full
-  pub line : stm.track.stay.line ≡ LineSpeed.Dark
+  pub line : stm.track.stay.line ≡ None
   pub phase : stm.feedback.phase ≡ Phase.Waiting
   pub pressure : stm.feedback.pressures.pressure ≡ kpa 0
   pub reference : stm.feedback.pressures.reference ≡ kpa 0

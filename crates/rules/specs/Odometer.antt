@@ -1,6 +1,6 @@
 -- An odometer report (01, "Causes and release": "An odometer report in DA moves, measures, adds causes, then releases. In HS it moves
 -- and measures, in DE and CS it only measures; each keeps its figures and buttons."; 02, F-3).
-use Rattle.std.specs.Prelude.{ℕ, Bool, cond, not, ◌&&◌}
+use Rattle.std.specs.Prelude.{ℕ, Bool, cond, not, ◌&&◌, Option}
 use mathlib.Core.List.{List, map, zip_with}
 use Rattle.std.specs.Float.Ieee.{lt}
 use Rattle.pressure.specs.declared.Measured.{Measured}
@@ -22,7 +22,6 @@ use Rattle.rules.specs.declared.State.{State}
 use Rattle.rules.specs.declared.Train.{Train}
 use Rattle.rules.specs.declared.Track.{Track}
 use Rattle.rules.specs.declared.Since.{Since}
-use Rattle.rules.specs.declared.Roll.{Roll}
 use Rattle.rules.specs.declared.Brakes.{Brakes}
 use Rattle.rules.specs.declared.BrakeTest.{BrakeTest}
 use Rattle.rules.specs.declared.Kept.{Kept}
@@ -134,7 +133,7 @@ unfoldable pub is_insufficient : Train → Measured → Bool
 is_insufficient train feedback = lt (drop_of feedback.pressures) (kpa train.sufficient)
 
 -- by what the curves say, and VMAX
-unfoldable pub seen_with : List Judged → ℕ → Train → Measured → Kept → Since → Roll → Seen
+unfoldable pub seen_with : List Judged → ℕ → Train → Measured → Kept → Since → Option ℕ → Seen
 seen_with judged vmax train feedback kept since roll = record {
   speed = kept.speed;
   vmax = vmax;
@@ -148,7 +147,7 @@ seen_with judged vmax train feedback kept since roll = record {
   rolled = is_rolled roll;
 }
 
-unfoldable pub seen_of : Train → Track → Measured → Kept → Since → Roll → Seen
+unfoldable pub seen_of : Train → Track → Measured → Kept → Since → Option ℕ → Seen
 seen_of train track feedback kept since roll =
     seen_with (judged_now train kept (all_curves track)) (vmax_of train track) train feedback kept since roll
 

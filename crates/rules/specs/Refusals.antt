@@ -1,9 +1,9 @@
 -- The refusals (01, "Answers": "Checked in this order"; 02, F-3, F-6 and F-7).
-use Rattle.std.specs.Prelude.{ℕ, ◌+◌, Bool, true, cond, not, ◌&&◌, ◌||◌, List, [], ◌∷◌, eqb}
+use Rattle.std.specs.Prelude.{ℕ, ◌+◌, Bool, true, cond, not, ◌&&◌, ◌||◌, List, [], ◌∷◌, eqb, Result, Ok, Err, ⊤}
 use Rattle.wire.specs.Codes.{longest}
 use Rattle.wire.specs.Numbers.{byte_at}
 use Rattle.wire.specs.Bytes.{same_bytes}
-use Rattle.wire.specs.declared.form.Form.{Form}
+use Rattle.wire.specs.declared.form.FormError.{FormError}
 use Rattle.wire.specs.Form.{form_of, operands_of}
 use Rattle.pressure.specs.Phases.{is_set}
 use Rattle.areas.specs.Rows.{is_taken}
@@ -139,12 +139,12 @@ abbrev pub whole_answer : Stm → List ℕ → Answer
 whole_answer stm command = first_of (rules_for stm command (code_of (code_byte command)) (operands_of command))
 
 -- refusals 1 to 4 come first, by the table of codes and lengths; a command that passes them has its own answer
-abbrev pub answer_for : Form → Answer → Answer
-answer_for Form.WrongArea whole = Answer.WrongArea
-answer_for Form.NoBytes whole = Answer.NoBytes
-answer_for Form.NoCode whole = Answer.NoCode
-answer_for Form.WrongLength whole = Answer.WrongLength
-answer_for Form.Whole whole = whole
+abbrev pub answer_for : Result ⊤ FormError → Answer → Answer
+answer_for (Err FormError.WrongArea) whole = Answer.WrongArea
+answer_for (Err FormError.NoBytes) whole = Answer.NoBytes
+answer_for (Err FormError.NoCode) whole = Answer.NoCode
+answer_for (Err FormError.WrongLength) whole = Answer.WrongLength
+answer_for (Ok passed) whole = whole
 
 -- the answer to every command, with an area of so many bytes
 unfoldable pub answer_of : Stm → List ℕ → ℕ → Answer

@@ -1,5 +1,5 @@
 -- What brakes, through an odometer report in DA and through commands 30 and 32 (01, "Causes and release").
-use Rattle.std.specs.Prelude.{ℕ, ◌+◌, ◌*◌, min, Bool, false, cond, not, ◌&&◌, ◌||◌, eqb, ltb, pos, ◌*ℤ◌}
+use Rattle.std.specs.Prelude.{ℕ, ◌+◌, ◌*◌, min, Bool, false, cond, not, ◌&&◌, ◌||◌, eqb, ltb, pos, ◌*ℤ◌, Option, None, Some}
 use Rattle.std.specs.Int.Signed.{le_z}
 use Rattle.rules.specs.Hold.{held_on, hold_by}
 use Rattle.rules.specs.Table.{stands, no_causes, stands_with, any_stands, ordered_at, ordered_by, is_stop, added_causes, left_causes}
@@ -11,7 +11,6 @@ use Rattle.rules.specs.declared.Order.{Order}
 use Rattle.rules.specs.declared.Hold.{Hold}
 use Rattle.rules.specs.declared.Since.{Since}
 use Rattle.rules.specs.declared.Check.{Check}
-use Rattle.rules.specs.declared.Roll.{Roll}
 use Rattle.rules.specs.declared.Brakes.{Brakes}
 use Rattle.rules.specs.declared.Train.{Train}
 use Rattle.rules.specs.declared.Reading.{Reading}
@@ -24,7 +23,7 @@ fresh_brakes = record {
   since = record { aimed = false; unexpected = false; landslide = false; balise = Hold.Undecided };
   service = Check.Idle;
   emergency = Check.Idle;
-  roll = Roll.Ended;
+  roll = None;
   drift = false;
   failed = false;
 }
@@ -49,23 +48,23 @@ since_at full r since = record {
 }
 
 -- the ground rolled with neutral, kept up to 501
-abbrev pub rolled_on : ℕ → Roll → Roll
-rolled_on moved Roll.Ended = Roll.Ended
-rolled_on moved (Roll.Rolled covered) = Roll.Rolled (min 501 (covered + moved))
+abbrev pub rolled_on : ℕ → Option ℕ → Option ℕ
+rolled_on moved None = None
+rolled_on moved (Some covered) = Some (min 501 (covered + moved))
 
 -- "from 0 at each halt and never before one; .. a report without neutral that is no halt ends it until the next halt"
-unfoldable pub roll_at : Reading → Roll → Roll
-roll_at r roll = cond (is_halt r) (Roll.Rolled 0) (cond r.neutral (rolled_on r.moved roll) Roll.Ended)
+unfoldable pub roll_at : Reading → Option ℕ → Option ℕ
+roll_at r roll = cond (is_halt r) (Some 0) (cond r.neutral (rolled_on r.moved roll) None)
 
 -- "over 500 cm rolled from standstill"
-abbrev pub is_rolled : Roll → Bool
-is_rolled Roll.Ended = false
-is_rolled (Roll.Rolled covered) = ltb 500 covered
+abbrev pub is_rolled : Option ℕ → Bool
+is_rolled None = false
+is_rolled (Some covered) = ltb 500 covered
 
 -- "a drop of bit 10 sets it back to 0"; where it has ended it stays ended
-abbrev pub roll_back : Roll → Roll
-roll_back Roll.Ended = Roll.Ended
-roll_back (Roll.Rolled covered) = Roll.Rolled 0
+abbrev pub roll_back : Option ℕ → Option ℕ
+roll_back None = None
+roll_back (Some covered) = Some 0
 
 unfoldable pub noted_brakes : Train → Reading → Brakes → Brakes
 noted_brakes train r b = record {
@@ -110,7 +109,7 @@ added_brakes train dropped s b = record {
 -- ---- releasing
 
 -- the rolled ground, by whether bit 10 stood and whether it is left
-unfoldable pub roll_left : Bool → Bool → Roll → Roll
+unfoldable pub roll_left : Bool → Bool → Option ℕ → Option ℕ
 roll_left stood left roll = cond (stood && not left) (roll_back roll) roll
 
 -- what is left of b with these causes; "until no order stands"

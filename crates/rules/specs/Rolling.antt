@@ -1,5 +1,5 @@
 -- Rolling over runs: "over 500 cm rolled from standstill, neutral throughout" (01, "Causes and release", bit 10). Proved in proofs/.
-use Rattle.std.specs.Prelude.{◌≡◌, ℕ, Bool, true, false, cond, not, ◌&&◌, ◌||◌, List, [], ◌∷◌, map, ltb}
+use Rattle.std.specs.Prelude.{◌≡◌, ℕ, Bool, true, false, cond, not, ◌&&◌, ◌||◌, List, [], ◌∷◌, map, ltb, None}
 use Rattle.rules.specs.Numbers.{is_accepted}
 use Rattle.rules.specs.Places.{any_of, all_of}
 use Rattle.rules.specs.Table.{stands}
@@ -7,7 +7,6 @@ use Rattle.rules.specs.Runs.{Sent, answer_to, state_after, state_at_end, freshen
 use Rattle.rules.specs.History.{moved_of, button_of, is_supervised, is_halt_of, sum}
 use Rattle.rules.specs.Braking.{ordered_now}
 use Rattle.rules.specs.declared.Cause.{Cause}
-use Rattle.rules.specs.declared.Roll.{Roll}
 use Rattle.rules.specs.declared.Stm.{Stm}
 
 -- a report in DA: whether it halts, whether it has neutral, its ground, and whether it drops bit 10
@@ -65,7 +64,7 @@ is_over500 rs =
 abbrev pub RollingIsOrdered : Type 0
 RollingIsOrdered =
     (stm : Stm) (xs : List Sent) (z : Sent)
-    → stm.brakes.roll ≡ Roll.Ended
+    → stm.brakes.roll ≡ None
     → let last = state_at_end stm xs in
     is_accepted (answer_to last z) ≡ true → is_supervised last z.command ≡ true
     → ordered_now last z.command Cause.Rolling ≡ is_over500 (rolls_of z.command false ∷ rolls_over [] stm xs)

@@ -1,11 +1,10 @@
 -- The shown curve (01, "Report"; 02, F-7).
-use Rattle.std.specs.Prelude.{ℕ, Bool, true, false, cond, not, ◌&&◌, ◌||◌, List, [], ◌∷◌, ◌++◌, map, eqb, ltb}
+use Rattle.std.specs.Prelude.{ℕ, Bool, true, false, cond, not, ◌&&◌, ◌||◌, List, [], ◌∷◌, ◌++◌, map, eqb, ltb, Option, Some, None}
 use Rattle.curve.specs.declared.Curve.{Curve}
 use Rattle.curve.specs.declared.Shown.{Shown}
 use Rattle.curve.specs.declared.Judged.{Judged}
 use Rattle.interval.specs.Intervals.{rank_of, shown_of}
 use Rattle.places.specs.Places.{none_judged}
-use Rattle.colours.specs.declared.Showing.{Showing}
 use Rattle.curve.specs.Free.{free_curve}
 use Rattle.records.specs.Lives.{as_curve}
 use Rattle.rules.specs.declared.Track.{Track}
@@ -57,5 +56,5 @@ unfoldable pub shown_as : Candidate → Shown
 shown_as shown = shown_of shown.curve.past shown.judged.interval
 
 -- what is shown: its interval, or no curve
-unfoldable pub showing_of : Candidate → Showing
-showing_of shown = cond shown.judged.held (Showing.Curve (shown_as shown)) Showing.NoCurve
+unfoldable pub showing_of : Candidate → Option Shown
+showing_of shown = cond shown.judged.held (Some (shown_as shown)) None

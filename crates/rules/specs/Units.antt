@@ -1,6 +1,6 @@
 -- What is called a unit (01, "The buyer's note"): "any state with its commands' figures in range, distances, sums and counts as
 -- commands can leave them, no curve id and no section id held twice and, in DA, a reference pressure".
-use Rattle.std.specs.Prelude.{◌≡◌, ℕ, ◌*◌, Bool, true, false, cond, not, ◌&&◌, ◌||◌, List, [], ◌∷◌, eqb, leb, ltb, ℤ, length}
+use Rattle.std.specs.Prelude.{◌≡◌, ℕ, ◌*◌, Bool, true, false, cond, not, ◌&&◌, ◌||◌, List, [], ◌∷◌, eqb, leb, ltb, ℤ, length, Option, Some, None}
 use Rattle.wire.specs.Codes.{longest}
 use Rattle.wire.specs.Form.{report_length}
 use Rattle.pressure.specs.declared.Phase.{Phase}
@@ -11,8 +11,6 @@ use Rattle.pressure.specs.Report.{fresh_feedback}
 use Rattle.pressure.specs.Claims.{Each, after_all, Agrees}
 use Rattle.curve.specs.declared.Curve.{Curve}
 use Rattle.areas.specs.declared.Area.{Area}
-use Rattle.areas.specs.declared.LineSpeed.{LineSpeed}
-use Rattle.areas.specs.declared.Overlap.{Overlap}
 use Rattle.areas.specs.declared.Stay.{Stay}
 use Rattle.areas.specs.Numbers.{is_area}
 use Rattle.curve.specs.declared.Kind.{Kind}
@@ -29,7 +27,6 @@ use Rattle.rules.specs.declared.State.{State}
 use Rattle.rules.specs.declared.Order.{Order}
 use Rattle.rules.specs.declared.Hold.{Hold}
 use Rattle.rules.specs.declared.Check.{Check}
-use Rattle.rules.specs.declared.Roll.{Roll}
 use Rattle.rules.specs.declared.Stage.{Stage}
 use Rattle.rules.specs.declared.Verdict.{Verdict}
 use Rattle.rules.specs.declared.Section.{Section}
@@ -52,16 +49,16 @@ is_section_sound length section = not section.held || section_in_range section &
 
 -- 02, F-6: a GMD's speed is in range and was passed in this stay, in the partial area; the ground of a pending 50 m is below them, in the
 -- fully equipped area
-abbrev pub is_line_sound : Area → LineSpeed → Bool
-is_line_sound area LineSpeed.Dark = true
-is_line_sound area (LineSpeed.Board speed) = is_area Area.Partial area && within 10 300 speed
+abbrev pub is_line_sound : Area → Option ℕ → Bool
+is_line_sound area None = true
+is_line_sound area (Some speed) = is_area Area.Partial area && within 10 300 speed
 
-abbrev pub is_overlap_sound : Area → Overlap → Bool
-is_overlap_sound area Overlap.Present = true
-is_overlap_sound area (Overlap.Missing covered) = is_area Area.Full area && ltb covered 5000
+abbrev pub is_missing_sound : Area → Option ℕ → Bool
+is_missing_sound area None = true
+is_missing_sound area (Some covered) = is_area Area.Full area && ltb covered 5000
 
 abbrev pub is_stay_sound : Stay → Bool
-is_stay_sound stay = is_line_sound stay.area stay.line && is_overlap_sound stay.area stay.overlap
+is_stay_sound stay = is_line_sound stay.area stay.line && is_missing_sound stay.area stay.missing
 
 -- 02, F-7: a place is free, or its record's figures are in range, it is a speed target, and its ground is below 100 m while it is undecided;
 -- a terminated record is not held
@@ -103,9 +100,9 @@ is_hold_sound stood Hold.High = true
 is_hold_sound stood (Hold.Low count) = leb count 20
 
 -- the rolled ground is kept up to 501
-abbrev pub is_roll_sound : Roll → Bool
-is_roll_sound Roll.Ended = true
-is_roll_sound (Roll.Rolled covered) = leb covered 501
+abbrev pub is_roll_sound : Option ℕ → Bool
+is_roll_sound None = true
+is_roll_sound (Some covered) = leb covered 501
 
 -- ---- feedback
 

@@ -1,5 +1,5 @@
 -- What the bytes of a report say of the unit (01, "Report"; 02, F-1, F-3, F-4 and F-7). Proved in proofs/.
-use Rattle.std.specs.Prelude.{◌≡◌, ℕ, max, ◌≤◌, ◌<◌, Bool, true, false, cond, not, ◌||◌, ◌⊎◌, leb}
+use Rattle.std.specs.Prelude.{◌≡◌, ℕ, max, ◌≤◌, ◌<◌, Bool, true, false, cond, not, ◌||◌, ◌⊎◌, leb, Option, Some, None}
 use mathlib.Core.List.{List, [], ◌∷◌, map, foldr, Memᴰ}
 use Rattle.wire.specs.Report.{state_in, order_in, causes_in, permitted_in, vmax_in, id_in, shown_in, bar_in, mode_in, messages_in, offered_in, change_in}
 use Rattle.curve.specs.declared.Curve.{Curve}
@@ -12,7 +12,6 @@ use Rattle.curve.specs.Ground.{never}
 use Rattle.interval.specs.Changes.{to_change}
 use Rattle.colours.specs.Numbers.{showing_number, bar_number, mode_number}
 use Rattle.colours.specs.Rows.{rows, rows_for}
-use Rattle.colours.specs.declared.Showing.{Showing}
 use Rattle.colours.specs.declared.Row.{Row}
 use Rattle.rules.specs.Numbers.{is_accepted, bit_number}
 use Rattle.rules.specs.Operands.{bit_of}
@@ -130,7 +129,7 @@ abbrev pub is_past_permitted : Stm → Curve → Bool
 is_past_permitted stm curve = is_reached curve (braking_in stm).level stm.kept.speed (braking_in stm).leads.permitted
 
 -- 02, F-4: bytes 10 and 11 are bar and mode of the one row that holds for what is shown
-pub record ByRow (past sufficient : Bool) (showing : Showing) (report : List ℕ) : Type 0 where
+pub record ByRow (past sufficient : Bool) (showing : Option Shown) (report : List ℕ) : Type 0 where
   pub row : Row
   pub alone : rows_for past sufficient showing ≡ row ∷ []
   pub bar : bar_in report ≡ bar_number row.bar
@@ -145,7 +144,7 @@ pub record Shows (stm : Stm) (report : List ℕ) : Type 0 where
   pub marked : bit_of 6 (messages_in report) ≡ et
   pub id : id_in report ≡ curve.id
   pub interval : shown_in report ≡ shown_number (shown_as_in stm curve)
-  pub colours : ByRow (is_past_permitted stm curve) (not (is_short stm)) (Showing.Curve (shown_as_in stm curve)) report
+  pub colours : ByRow (is_past_permitted stm curve) (not (is_short stm)) (Some (shown_as_in stm curve)) report
   -- 02, F-1: "four bytes at its end with this for the shown curve"
   pub change : change_in report ≡ to_change curve (braking_in stm) stm.kept.speed
 
@@ -157,7 +156,7 @@ pub record ShowsNone (report : List ℕ) : Type 0 where
   pub interval : shown_in report ≡ 0
   pub bar : bar_in report ≡ 0
   pub mode : mode_in report ≡ 0
-  pub colours : (past sufficient : Bool) → ByRow past sufficient Showing.NoCurve report
+  pub colours : (past sufficient : Bool) → ByRow past sufficient None report
   pub change : change_in report ≡ never
 
 abbrev pub ShownInDA : Type 0

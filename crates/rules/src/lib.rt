@@ -1,66 +1,94 @@
-// The rules of the unit (01), for the code to be proved against: its types stand here, its rules in
-// specs/, and the members' points over them in specs/ too, proved in proofs/. Nothing here runs.
+// The rules of the unit (01), for the code to be proved against: its types stand here, with 01's numbers
+// of their cases, its rules in specs/, and the members' points over them in specs/ too, proved in proofs/.
+// Of what stands here only the numbers and the derived comparisons run.
 //
 // Speeds v are in cm/s, limits in whole km/h, ground in cm, times in tenths of a second,
 // decelerations in mm/s², pressures in kPa.
 #![tactic(auto)]
 
+ghost use Rattle.std.specs.Prelude.{◌≡◌};
+ghost use Rattle.rules.specs.Numbers.{answer_number, code_number, state_number, order_number};
+
 // ---- answers and codes
 
 // The answers (01, "Answers"; 02, F-3, F-6 and F-7): accepted, again, and the refusals 1 to 18 in their order.
-#[derive(Clone, Copy)]
+#[derive(Clone, Copy, PartialEq, Eq)]
 pub enum Answer {
-    Accepted,
-    Again,
-    WrongArea,
-    NoBytes,
-    NoCode,
-    WrongLength,
-    NotStarted,
-    ZeroNumber,
-    WrongNumber,
-    Failed,
-    OutOfRange,
-    NotAllowed,
-    NoReference,
-    NotHeld,
-    AllHeld,
-    OutsideDE,
-    TestRunning,
-    NotTaken,
-    NoRecordPlace,
-    NotSuperseded,
+    Accepted = 0,
+    Again = 100,
+    WrongArea = 1,
+    NoBytes = 2,
+    NoCode = 3,
+    WrongLength = 4,
+    NotStarted = 5,
+    ZeroNumber = 6,
+    WrongNumber = 7,
+    Failed = 8,
+    OutOfRange = 9,
+    NotAllowed = 10,
+    NoReference = 11,
+    NotHeld = 12,
+    AllHeld = 13,
+    OutsideDE = 14,
+    TestRunning = 15,
+    NotTaken = 16,
+    NoRecordPlace = 17,
+    NotSuperseded = 18,
+}
+
+impl From<Answer> for u8 {
+    ghost from_gives = { λ answer number. number ≡ answer_number answer };
+
+    fn from(answer: Answer) -> u8 {
+        answer as u8
+    }
 }
 
 // The commands (01, "Commands"; 02, F-3, F-6 and F-7), in the order of their codes.
-#[derive(Clone, Copy)]
+#[derive(Clone, Copy, PartialEq, Eq)]
 pub enum Code {
-    Start,
-    ChangeState,
-    Odometer,
-    NewCurve,
-    EndCurve,
-    NewSection,
-    EndSection,
-    StopPassed,
-    Proceed,
-    BaliseError,
-    TestBrakes,
-    AreaEvent,
-    NewRecord,
-    SignalPassed,
-    EndRecord,
+    Start = 0x01,
+    ChangeState = 0x02,
+    Odometer = 0x10,
+    NewCurve = 0x20,
+    EndCurve = 0x21,
+    NewSection = 0x22,
+    EndSection = 0x23,
+    StopPassed = 0x30,
+    Proceed = 0x31,
+    BaliseError = 0x32,
+    TestBrakes = 0x40,
+    AreaEvent = 0x50,
+    NewRecord = 0x51,
+    SignalPassed = 0x52,
+    EndRecord = 0x53,
+}
+
+impl From<Code> for u8 {
+    ghost from_gives = { λ code number. number ≡ code_number code };
+
+    fn from(code: Code) -> u8 {
+        code as u8
+    }
 }
 
 // ---- the state
 
-#[derive(Clone, Copy)]
+#[derive(Clone, Copy, PartialEq, Eq)]
 pub enum State {
-    DE,
-    CS,
-    HS,
-    DA,
-    FA,
+    DE = 0,
+    CS = 1,
+    HS = 2,
+    DA = 3,
+    FA = 4,
+}
+
+impl From<State> for u8 {
+    ghost from_gives = { λ state number. number ≡ state_number state };
+
+    fn from(state: State) -> u8 {
+        state as u8
+    }
 }
 
 // Whether there has been a start, and the state.
@@ -171,14 +199,8 @@ pub enum Check {
     Done,
 }
 
-// The ground rolled from standstill with neutral throughout, kept up to 501; ended until the next halt.
-#[derive(Clone, Copy)]
-pub enum Roll {
-    Ended,
-    Rolled(u16),
-}
-
-// What brakes. `service` and `emergency` are the checks of bit 11 and of the emergency order,
+// What brakes. `service` and `emergency` are the checks of bit 11 and of the emergency order, `roll` the
+// ground rolled from standstill with neutral throughout, kept up to 501 (None: ended until the next halt),
 // `drift` is DRIFTBROMSFEL, `failed` NÖDBROMSFEL.
 #[derive(Clone, Copy)]
 pub struct Brakes {
@@ -186,7 +208,7 @@ pub struct Brakes {
     pub since: Since,
     pub service: Check,
     pub emergency: Check,
-    pub roll: Roll,
+    pub roll: Option<u16>,
     pub drift: bool,
     pub failed: bool,
 }
@@ -201,7 +223,7 @@ pub enum Stage {
 }
 
 // How the last test since the start has ended: none has, it passed, it failed.
-#[derive(Clone, Copy)]
+#[derive(Clone, Copy, PartialEq, Eq)]
 pub enum Verdict {
     Pending,
     Passed,
@@ -278,12 +300,20 @@ pub struct Seen {
 // ---- what is shown
 
 // The brake orders.
-#[derive(Clone, Copy)]
+#[derive(Clone, Copy, PartialEq, Eq)]
 pub enum Order {
-    Nothing,
-    Soft,
-    Full,
-    Emergency,
+    Nothing = 0,
+    Soft = 1,
+    Full = 2,
+    Emergency = 3,
+}
+
+impl From<Order> for u8 {
+    ghost from_gives = { λ order number. number ≡ order_number order };
+
+    fn from(order: Order) -> u8 {
+        order as u8
+    }
 }
 
 // A place with its curve and what the curve says: one that may be shown. `et` is whether it is an ET record's.

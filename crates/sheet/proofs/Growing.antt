@@ -9,6 +9,7 @@ use lib.ListN.{length, take, drop, length-append}
 use lib.Seq.{take-nil, drop-nil}
 use borrow.Author.Tests.{ltb-true, ltb-false}
 use Rattle.laws.proofs.Lists.{flatten_joined}
+use Rattle.std.specs.Prelude.{Some}
 use Rattle.sheet.specs.declared.Sheet.{Sheet}
 use Rattle.sheet.specs.Columns.{Entry, line_for, header_of}
 use Rattle.sheet.specs.Pages.{printed_as, differs, printed_from, page_lines, last_page, pages_from, pages_of, sheet_of}
@@ -60,22 +61,22 @@ stops page lines h = let none : last_page - page ≡ 0 = omega (arith, h) in rw 
 module _ (s : Sheet) (e : Entry) (es : List Entry)
     (more : (s : Sheet) → added_by s es ≡ onwards s.page (page_lines - s.line) (map line_for (printed_from s.printed es))) where
   abbrev after : List Entry
-  after = printed_from (printed_as e.report) es
+  after = printed_from (Some (printed_as e.report)) es
 
   step_by : (d l p : Bool) → ltb s.line page_lines ≡ l → ltb s.page last_page ≡ p
       → let a = cond (not d) (added [] s)
-      (cond l (added (line_for e) (sheet (printed_as e.report) s.page (s.line + 1)))
-      (cond p (added (header_of (s.page + 1) ++ line_for e) (sheet (printed_as e.report) (s.page + 1) 2)) (added [] s))) in
+      (cond l (added (line_for e) (sheet (Some (printed_as e.report)) s.page (s.line + 1)))
+      (cond p (added (header_of (s.page + 1) ++ line_for e) (sheet (Some (printed_as e.report)) (s.page + 1) 2)) (added [] s))) in
       a.text ++ added_by a.sheet es ≡ onwards s.page (page_lines - s.line) (map line_for (cond d (e ∷ after) (printed_from s.printed es)))
   step_by false l p f g = more s
   step_by true true p f g =
       let room : page_lines - s.line ≡ suc (page_lines - (s.line + 1)) = let h = ltb-true s.line page_lines f in omega (arith, h) in
-      ap (λ t. line_for e ++ t) (more (sheet (printed_as e.report) s.page (s.line + 1)))
+      ap (λ t. line_for e ++ t) (more (sheet (Some (printed_as e.report)) s.page (s.line + 1)))
       ∙ sym (on_page s.page (page_lines - (s.line + 1)) (line_for e) (map line_for after))
       ∙ ap (λ left. onwards s.page left (line_for e ∷ map line_for after)) (sym room)
   step_by true false true f g =
       let full : page_lines - s.line ≡ 0 = let h = ltb-false s.line page_lines f in omega (arith, h) in
-      ap (λ t. (header_of (s.page + 1) ++ line_for e) ++ t) (more (sheet (printed_as e.report) (s.page + 1) 2))
+      ap (λ t. (header_of (s.page + 1) ++ line_for e) ++ t) (more (sheet (Some (printed_as e.report)) (s.page + 1) 2))
       ∙ sym (begins_page s.page (line_for e) (map line_for after) (ltb-true s.page last_page g))
       ∙ ap (λ left. onwards s.page left (line_for e ∷ map line_for after)) (sym full)
   step_by true false false f g =
@@ -113,8 +114,8 @@ adds_at_most = (
     at_most : (s : Sheet) (e : Entry) (d l p : Bool)
         → length
         (cond (not d) (added [] s)
-        (cond l (added (line_for e) (sheet (printed_as e.report) s.page (s.line + 1)))
-        (cond p (added (header_of (s.page + 1) ++ line_for e) (sheet (printed_as e.report) (s.page + 1) 2)) (added [] s)))).text
+        (cond l (added (line_for e) (sheet (Some (printed_as e.report)) s.page (s.line + 1)))
+        (cond p (added (header_of (s.page + 1) ++ line_for e) (sheet (Some (printed_as e.report)) (s.page + 1) 2)) (added [] s)))).text
         ≤ added_width
     at_most s e false l p = omega arith
     at_most s e true true p = let long = (line_is_whole e).bytes in omega (arith, long)

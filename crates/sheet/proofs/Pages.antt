@@ -6,6 +6,7 @@ use mathlib.Core.List.{List, [], ◌∷◌, ◌++◌, map, flat_map, flatten, Me
 use native.Mathlib.Omega.{arith}
 use lib.ListN.{length, take, drop, length-append, length-take, length-drop, take-append-drop}
 use lib.Seq.{take-nil, take-add}
+use Rattle.std.specs.Prelude.{Some}
 use Rattle.sheet.specs.Columns.{Entry, line_for, header_of}
 use Rattle.sheet.specs.Pages.{printed_as, differs, printed_from, printed_of, page_lines, last_page, pages_from, pages_of, sheet_of}
 use Rattle.sheet.specs.Claims.{IsLine, LinesAreWhole, PagesAreFull, PagesEnd, LinesInOrder, NothingForNone}
@@ -133,4 +134,4 @@ some_sheet l ls e =
 
 pub nothing_for_none : NothingForNone
 unfolding differs printed_from pages_from pages_of sheet_of flatten
-nothing_for_none = (refl, λ e es none. some_sheet (line_for e) (map line_for (printed_from (printed_as e.report) es)) none)
+nothing_for_none = (refl, λ e es none. some_sheet (line_for e) (map line_for (printed_from (Some (printed_as e.report)) es)) none)

@@ -1,29 +1,29 @@
 -- The trip sheet of a list of accepted commands (02, F-5): which of them get a line, and how lines come to pages.
-use Rattle.std.specs.Prelude.{ℕ, zero, suc, ◌+◌, ◌-◌, Bool, true, cond, not, ◌&&◌, eqb, take, drop}
+use Rattle.std.specs.Prelude.{ℕ, zero, suc, ◌+◌, ◌-◌, Bool, true, cond, not, ◌&&◌, Option, None, Some, eqb, take, drop}
 use mathlib.Core.List.{List, [], ◌∷◌, map, flatten}
 use Rattle.wire.specs.Report.{state_in, order_in, permitted_in}
-use Rattle.sheet.specs.declared.Printed.{Printed}
+use Rattle.sheet.specs.declared.Line.{Line}
 use Rattle.sheet.specs.Columns.{Entry, line_for, header_of}
 
 -- ---- which commands get a line
 
 -- what a line says of the three by which the next is compared with it
-abbrev pub printed_as : List ℕ → Printed
-printed_as report = Printed.Line (order_in report) (permitted_in report) (state_in report)
+abbrev pub printed_as : List ℕ → Line
+printed_as report = record { order = order_in report; permitted = permitted_in report; state = state_in report }
 
 -- "after which order, permitted speed or state differs from the line before; the first is always printed"
-unfoldable pub differs : Printed → List ℕ → Bool
-differs Printed.Nothing report = true
-differs (Printed.Line order permitted state) report =
-    not (eqb (order_in report) order && eqb (permitted_in report) permitted && eqb (state_in report) state)
+unfoldable pub differs : Option Line → List ℕ → Bool
+differs None report = true
+differs (Some line) report =
+    not (eqb (order_in report) line.order && eqb (permitted_in report) line.permitted && eqb (state_in report) line.state)
 
 -- "one line follows for each accepted command after which ..": those of a list, after a last line
-unfoldable pub printed_from : Printed → List Entry → List Entry
+unfoldable pub printed_from : Option Line → List Entry → List Entry
 printed_from last [] = []
-printed_from last (e ∷ es) = cond (differs last e.report) (e ∷ printed_from (printed_as e.report) es) (printed_from last es)
+printed_from last (e ∷ es) = cond (differs last e.report) (e ∷ printed_from (Some (printed_as e.report)) es) (printed_from last es)
 
 abbrev pub printed_of : List Entry → List Entry
-printed_of entries = printed_from Printed.Nothing entries
+printed_of entries = printed_from None entries
 
 -- ---- pages
 

@@ -2,21 +2,18 @@
 // sheet in specs/ too, proved in proofs/. Nothing here runs.
 #![tactic(auto)]
 
-// What the last line says of the three by which the next is compared with it; nothing before any line.
-#[derive(Clone, Copy)]
-pub enum Printed {
-    Nothing,
-    Line {
-        order: u8,
-        permitted: u16,
-        state: u8,
-    },
+// What a line says of the three by which the next is compared with it.
+#[derive(Clone, Copy, PartialEq, Eq)]
+pub struct Line {
+    pub order: u8,
+    pub permitted: u16,
+    pub state: u8,
 }
 
-// Where a sheet stands: its last line, the page, and how many lines are on it.
+// Where a sheet stands: its last line, if there is one, the page, and how many lines are on it.
 #[derive(Clone, Copy)]
 pub struct Sheet {
-    pub printed: Printed,
+    pub printed: Option<Line>,
     pub page: u16,
     pub line: u8,
 }

@@ -22,7 +22,7 @@ fn print(out: &mut impl Write, record: &[u8; RECORD]) -> io::Result<()> {
     let mut pages = [0u8; PAGES];
     let handed = printing::hand_on(printing::fresh(), stream_of(record), true, &mut pages);
     out.write_all(portions::part(&pages, 0, handed.written))?;
-    out.write_all(b"end of the sheet\n")
+    writeln!(out, "end of the sheet")
 }
 
 // A proved loop ends, and nothing says that the input does: so the turns are counted.
@@ -30,10 +30,9 @@ fn main(rt: HostRuntime) -> io::Result<()> {
     let mut input = rt.stdin();
     let mut out = rt.stdout();
     for _ in 0..u32::MAX {
-        let mut record = [0u8; RECORD];
-        if console::read_full(&mut input, &mut record)? < RECORD {
+        let Some(record) = console::read_record::<RECORD, _>(&mut input)? else {
             break;
-        }
+        };
         print(&mut out, &record)?;
     }
     Ok(())

@@ -1,7 +1,7 @@
 -- A turn of such a loop: a read behind the bytes that are left, what is handed on of the bytes at hand, and the write of its text. Assumes
 -- nothing.
-use Rattle.std.specs.Prelude.{ℕ, ◌≤◌, ◌<◌, Bool, true, false, eqb, Option, IfSome, List, ◌++◌, length, take, drop}
-use Rattle.std.proofs.Common.{◌≡◌, refl, sym, ap, ◌∙◌, arith, le_refl, take-append-drop, take_all}
+use Rattle.std.specs.Prelude.{ℕ, ◌+◌, ◌*◌, ◌/◌, ◌≤◌, ◌<◌, Bool, true, false, eqb, Option, IfSome, List, ◌++◌, length, take, drop}
+use Rattle.std.proofs.Common.{◌≡◌, refl, sym, ap, ◌∙◌, arith, le_refl, take-append-drop, take_all, length-take}
 use Rattle.std.proofs.Math.Seq.{slice, length-slice}
 use borrow.Author.Tests.{eqb-false}
 use Rattle.std.proofs.lemmas.Bool.{eqb-true}
@@ -11,10 +11,12 @@ use mathlib.Core.List.{flatten}
 use lib.Seq.{take-take, take-append_seam}
 use Rattle.console.specs.Bytes.{AppendsFront}
 use Rattle.wire.specs.Bytes.{placed}
-use Rattle.wire.specs.Codes.{longest}
-use Rattle.portions.specs.Portions.{given_of, left_of, portions_of}
-use Rattle.portions.specs.Reads.{Writer, text_by, state_by}
-use Rattle.portions.proofs.Giving.{all_ended, waits_short}
+use Rattle.wire.specs.Codes.{shortest, longest}
+use Rattle.portions.specs.Portions.{given_within, given_of, left_of, portions_of}
+use Rattle.portions.specs.Reads.{Writer, text_by, state_by, input_room}
+use Rattle.portions.specs.Told.{handed_to}
+use Rattle.portions.specs.declared.telling.Handed.{Handed}
+use Rattle.portions.proofs.Giving.{all_ended, all_has_room, waits_short}
 use Rattle.stdio.proofs.Standing.{Stands, follows, begun_more, whole}
 
 -- what a read did to a buffer, in which bytes were left at the front
@@ -40,17 +42,57 @@ front_is_text text room = take-append_seam text (drop (length text) room)
 pub all_is_front : (o o' : Option (List ℕ)) (text : List ℕ) → Appends o o' text → AppendsFront o o' text
 all_is_front o o' text written = (length text, rw (take_all (length text) text (le_refl (length text))) written)
 
--- the bytes that are not used are kept
-pub kept_is_left : (all : Bool) (at_hand room : List ℕ)
-    → let rest = drop (length (flatten (given_of all at_hand).portions)) at_hand in
-    take (length rest) (placed rest room) ≡ left_of all at_hand
+-- the bytes that are not used are kept, and are so many
+pub kept_is_left : (all : Bool) (to : ℕ) (input : List ℕ) {used n : ℕ} {kept : List ℕ} → used ≡ length (flatten (given_of all (take to input)).portions)
+    → n ≡ length (slice used to input) → kept ≡ placed (slice used to input) input
+    → (take n kept ≡ left_of all (take to input)) × (n ≡ length (left_of all (take to input)))
 unfolding left_of
-kept_is_left all at_hand room = front_is_text (drop (length (flatten (given_of all at_hand).portions)) at_hand) room
+kept_is_left all to input {used = used} {n = n} {kept = kept} some counted put =
+    let rest = ap (λ k. drop k (take to input)) some in
+    let front : take n kept ≡ slice used to input = rw (counted, put) (front_is_text (slice used to input) input) in
+    (front ∙ rest, counted ∙ ap length rest)
 
 -- a stream that goes on had a read, and leaves less than the longest command
 leaves_short : (all : Bool) (bytes : List ℕ) → (given_of all bytes).ended ≡ false → length (left_of all bytes) < longest
 leaves_short true bytes e = absurd (false≢true (sym e ∙ all_ended bytes))
 leaves_short false bytes e = waits_short bytes e
+
+-- a read behind fewer bytes than the longest command has, which leaves room for more
+pub came_behind : {r r' : Option (List ℕ)} {left to : ℕ} {before after : List ℕ} → length after ≡ input_room → left < longest
+    → take left after ≡ take left before → left ≤ to → (left ≤ input_room → to ≤ input_room) → Consumes r r' (slice left to after)
+    → (to ≡ left → left < input_room → IsAtEnd r') → ReadBehind r r' left to before after
+came_behind long few kept lower upper came end = record {
+  within = lower;
+  room = let h = upper (omega (arith, few)) in omega (arith, h, long);
+  kept = kept;
+  came = came;
+  end = λ e. end e (omega (arith, few));
+}
+
+-- what a turn answers and leaves in the room, where all that can be given is
+pub record Turned {X : Type 0} (w : Writer X) (state : X) (left to : ℕ) (input : List ℕ) (handed : Handed X) (out : List ℕ) : Type 0 where
+  pub text : take handed.written out ≡ text_by w state (given_of (eqb to left) (take to input)).portions
+  pub after : handed.state ≡ state_by w state (given_of (eqb to left) (take to input)).portions
+  pub used : handed.used ≡ length (flatten (given_of (eqb to left) (take to input)).portions)
+  pub ended : handed.ended ≡ (given_of (eqb to left) (take to input)).ended
+
+pub turned : {X : Type 0} {w : Writer X} {state : X} {left to : ℕ} {input out : List ℕ} {handed : Handed X} (width : ℕ) (out₀ : List ℕ)
+    → 0 < width → (input_room / shortest + 2) * width ≤ length out₀ → length input ≡ input_room
+    → handed ≡ handed_to w state (given_within (length out₀ / width) (eqb to left) (take to input))
+    → out ≡ placed (text_by w state (given_within (length out₀ / width) (eqb to left) (take to input)).portions) out₀
+    → Turned w state left to input handed out
+unfolding handed_to
+turned {w = w} {state = state} {left = left} {to = to} {input = input} width out₀ some room long outcome written =
+    let bytes = take to input in
+    let few : length bytes ≤ input_room = omega (arith, length-take to input, long) in
+    let whole = all_has_room width (length out₀) (eqb to left) bytes some room few in
+    let all = outcome ∙ ap (handed_to w state) whole in
+    let put = written ∙ ap (λ g. placed (text_by w state g.portions) out₀) whole in record {
+      text = rw (ap (λ h. h.written) all, put) (front_is_text (text_by w state (given_of (eqb to left) bytes).portions) out₀);
+      after = ap (λ h. h.state) all;
+      used = ap (λ h. h.used) all;
+      ended = ap (λ h. h.ended) all;
+    }
 
 module _ {X : Type 0} (w : Writer X) (x : X) where
   pub turn_whole : {r r' o o' : Option (List ℕ)} {state : X} {left : ℕ} {before : List ℕ} → Stands w x r r' o o' state (take left before)

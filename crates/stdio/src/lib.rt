@@ -4,16 +4,18 @@
 // function, a write.
 #![tactic(auto)]
 
-ghost use Rattle.std.specs.Prelude.{◌≡◌, ◌-◌, ◌^◌, ◌<◌, ◌≤◌, length, take, IfOk, IfSome, OnOk, OnErr};
+ghost use Rattle.std.specs.Prelude.{◌≡◌, ◌+◌, ◌-◌, ◌*◌, ◌/◌, ◌^◌, ◌<◌, ◌≤◌, length, take, IfOk, IfSome, OnOk, OnErr};
 ghost use Rattle.std.specs.Io.KnownBytes.{Appends, Consumes, IsAtEnd, Keeps};
 ghost use Rattle.std.proofs.Math.Seq.{slice};
 ghost use Rattle.console.specs.Bytes.{AppendsFront};
 ghost use Rattle.wire.specs.Bytes.{placed};
-ghost use Rattle.portions.specs.Reads.{input_room};
+ghost use Rattle.wire.specs.Codes.{shortest};
+ghost use Rattle.portions.specs.Portions.{portions_of};
+ghost use Rattle.portions.specs.Reads.{text_by, input_room};
 ghost use Rattle.output.specs.Streams.{stream_of};
 
-use output::OUTPUT;
-use portions::INPUT;
+use output::{Lines, OUTPUT};
+use portions::{INPUT, Tell};
 use std::io;
 use std::io::{Read, Write};
 
@@ -47,12 +49,12 @@ pub fn read<R: Read>(stdin: &mut R, input: &mut [u8; INPUT], left: usize) -> io:
     read_after(stdin, input, left)
 }
 
-// Writes the first bytes of the lines.
-fn write<W: Write>(stdout: &mut W, lines: &[u8; OUTPUT], written: usize) -> io::Result<()>
-    ensures ok { OnOk result (Appends (W.contents stdout.old) (W.contents stdout.new) (take written lines.now)) }
-    ensures err { OnErr result (AppendsFront (W.contents stdout.old) (W.contents stdout.new) (take written lines.now)) }
+// Writes the first bytes of the room.
+fn write<W: Write>(stdout: &mut W, room: &[u8], written: usize) -> io::Result<()>
+    ensures ok { OnOk result (Appends (W.contents stdout.old) (W.contents stdout.new) (take written room.now)) }
+    ensures err { OnErr result (AppendsFront (W.contents stdout.old) (W.contents stdout.new) (take written room.now)) }
 {
-    console::write_all(stdout, portions::part(lines, 0, written))
+    console::write_all(stdout, portions::part(room, 0, written))
 }
 
 // Brings the bytes that are not used yet to the front, and tells how many they are.
@@ -63,7 +65,44 @@ pub fn keep(input: &mut [u8; INPUT], used: usize, to: usize) -> usize
     portions::to_front(input, used, to)
 }
 
-// Runs until the stream ends, or a read or a write fails. Memory is fixed, whatever the input.
+// Runs a writer of texts from a state until the stream ends, or a read or a write fails. Memory is fixed, whatever the input.
+pub fn run_from<T: Tell, const ROOM: usize, R: Read, W: Write>(
+    state: T::State,
+    stdin: &mut R,
+    stdout: &mut W,
+) -> io::Result<()>
+    // There is room for the texts of all that can be given of the input: none waits until more bytes come.
+    requires room { (input_room / shortest + 2) * T.WIDTH ≤ ROOM }
+    requires fits { ROOM < 2 ^ 63 }
+
+    // Where all went well, the text of the whole input is written, however it came in reads: of an input of up to
+    // 2^64 - 2 bytes, which no run reads.
+    ensures whole { OnOk result (IfSome (R.remaining stdin.old)
+        (λ input. length input < 2 ^ 64 - 1 → Appends (W.contents stdout.old) (W.contents stdout.new) (text_by T.writer state (portions_of input)))) }
+
+    // And whatever failed, what is written is a beginning of it.
+    ensures beginning { IfSome (R.remaining stdin.old)
+        (λ input. AppendsFront (W.contents stdout.old) (W.contents stdout.new) (text_by T.writer state (portions_of input))) }
+{
+    let mut input = [0u8; INPUT];
+    let mut room = [0u8; ROOM];
+    let mut state = state;
+    let mut left = 0;
+    // A proved loop ends, and nothing says that the input does: so the turns are counted.
+    for _ in 0..u64::MAX {
+        let to = read(stdin, &mut input, left)?;
+        let handed = portions::turn::<T>(state, &input, left, to, &mut room);
+        write(stdout, &room, handed.written)?;
+        if handed.ended {
+            return Ok(());
+        }
+        state = handed.state;
+        left = keep(&mut input, handed.used, to);
+    }
+    Ok(())
+}
+
+// Runs the unit and its lines.
 pub fn run<R: Read, W: Write>(stdin: &mut R, stdout: &mut W) -> io::Result<()>
     // Where all went well, the output of the whole input is written, however it came in reads: of an input of up to
     // 2^64 - 2 bytes, which no run reads.
@@ -74,22 +113,5 @@ pub fn run<R: Read, W: Write>(stdin: &mut R, stdout: &mut W) -> io::Result<()>
     ensures beginning { IfSome (R.remaining stdin.old)
         (λ input. AppendsFront (W.contents stdout.old) (W.contents stdout.new) (stream_of input)) }
 {
-    let mut input = [0u8; INPUT];
-    let mut lines = [0u8; OUTPUT];
-    let mut stm = unit::fresh();
-    let mut left = 0;
-    // A proved loop ends, and nothing says that the input does: so the turns are counted down.
-    let mut turns = u64::MAX;
-    while turns > 0 {
-        turns -= 1;
-        let to = read(stdin, &mut input, left)?;
-        let handed = output::turn(stm, &input, left, to, &mut lines);
-        write(stdout, &lines, handed.written)?;
-        if handed.ended {
-            return Ok(());
-        }
-        stm = handed.stm;
-        left = keep(&mut input, handed.used, to);
-    }
-    Ok(())
+    run_from::<Lines, OUTPUT, R, W>(unit::fresh(), stdin, stdout)
 }

@@ -2,17 +2,14 @@
 use Prim.Native.Nat.{ℕ}
 use mathlib.Core.Path.{◌≡◌, refl, ◌∙◌}
 use mathlib.Core.Bool.{true, false, cond}
-use mathlib.Core.List.{[], ◌∷◌}
-use Rattle.curve.specs.Ground.{never}
-use Rattle.areas.specs.Numbers.{area_number}
 use Rattle.rules.specs.declared.State.{State}
 use Rattle.rules.specs.declared.Stage.{Stage}
 use Rattle.rules.specs.declared.Stm.{Stm}
-use Rattle.rules.specs.Numbers.{state_number, is_state}
+use Rattle.rules.specs.Numbers.{is_state}
 use Rattle.rules.specs.Places.{all_curves}
 use Rattle.rules.specs.Speeds.{judged_now, vmax_of}
 use Rattle.rules.specs.Odometer.{seen_with, seen_of, seen_in}
-use Rattle.rules.specs.Reports.{messages_of, fields, report_in_da, report_outside, test_order, report_for, report_of}
+use Rattle.rules.specs.Reports.{report_in_da, report_outside, test_order, report_for, report_of}
 
 -- "order is 0 (FA: 3)"; in DE the test's
 abbrev pub order_outside : State → Stage → ℕ
@@ -42,8 +39,6 @@ module _ (stm : Stm) where
 
   -- outside DA
   pub report_elsewhere : is_state State.DA stm.control.state ≡ false
-      → report_of stm
-      ≡ fields (state_number stm.control.state) (order_outside stm.control.state stm.test.stage) 0 0 0 (255 ∷ 0 ∷ 0 ∷ 0 ∷ [])
-      (messages_of stm.brakes stm.feedback stm.test false) 0 never (area_number stm.track.stay.area)
-  unfolding report_of report_outside
+      → report_of stm ≡ report_outside stm.control.state (order_outside stm.control.state stm.test.stage) stm
+  unfolding report_of
   report_elsewhere e = by_state stm.control.state stm ∙ rw e

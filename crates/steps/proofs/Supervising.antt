@@ -1,5 +1,6 @@
 -- What an odometer report in DA leaves once it has moved, where the curves and records are judged once: their pasts, noted since,
 -- change nothing that they say. Assumes nothing.
+use Rattle.std.specs.Prelude.{Option}
 use mathlib.Core.Path.{◌≡◌, refl, sym, ap, ap₂, ◌∙◌}
 use Prim.Native.Nat.{ℕ}
 use mathlib.Core.Bool.{Bool, true, false, cond}
@@ -22,7 +23,6 @@ use Rattle.rules.specs.declared.State.{State}
 use Rattle.rules.specs.declared.Train.{Train}
 use Rattle.rules.specs.declared.Track.{Track}
 use Rattle.rules.specs.declared.Since.{Since}
-use Rattle.rules.specs.declared.Roll.{Roll}
 use Rattle.rules.specs.declared.Brakes.{Brakes}
 use Rattle.rules.specs.declared.Kept.{Kept}
 use Rattle.rules.specs.declared.Reading.{Reading}
@@ -34,7 +34,7 @@ use Rattle.track.proofs.Judging.{track_noted, judged_again, vmax_again}
 -- ---- what is seen
 
 -- what is seen is the same once the pasts are noted
-seen_noted : (train : Train) (track : Track) (feedback : Measured) (kept : Kept) (since : Since) (roll : Roll)
+seen_noted : (train : Train) (track : Track) (feedback : Measured) (kept : Kept) (since : Since) (roll : Option ℕ)
     → seen_of train (noted_track train kept track) feedback kept since roll
     ≡ seen_with (judged_now train kept (all_curves track)) (vmax_of train track) train feedback kept since roll
 unfolding seen_of
@@ -71,7 +71,7 @@ abbrev pub noted_by : Reading → Stm → Brakes
 noted_by r stm = noted_brakes stm.train r stm.brakes
 
 -- what is seen, with this rolled ground
-abbrev pub seen_by : Reading → Stm → Roll → Seen
+abbrev pub seen_by : Reading → Stm → Option ℕ → Seen
 seen_by r stm roll =
     seen_with (said_by r stm) (vmax_of stm.train stm.track) stm.train (pressed_by r stm) (kept_of r) (noted_by r stm).since roll
 
@@ -137,7 +137,7 @@ supervised_by : (r : Reading) (stm : Stm) → supervised_on r stm ≡ next_by r 
 supervised_by r stm = ap (releases _ _) (adds_by r stm) ∙ releases_by r stm _ _
 
 -- what is seen, with another rolled ground
-abbrev pub rolled_in : Seen → Roll → Seen
+abbrev pub rolled_in : Seen → Option ℕ → Seen
 rolled_in s roll = record {
   speed = s.speed;
   vmax = s.vmax;
@@ -151,7 +151,7 @@ rolled_in s roll = record {
   rolled = is_rolled roll;
 }
 
-rolled_in_lem : (r : Reading) (stm : Stm) (before after : Roll) → rolled_in (seen_by r stm before) after ≡ seen_by r stm after
+rolled_in_lem : (r : Reading) (stm : Stm) (before after : Option ℕ) → rolled_in (seen_by r stm before) after ≡ seen_by r stm after
 unfolding seen_with
 rolled_in_lem r stm before after = refl
 

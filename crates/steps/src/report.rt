@@ -1,33 +1,36 @@
 // The report.
 ghost use Rattle.std.specs.Prelude.{◌≤◌, ◌≡◌, false, cond, ◌∷◌, []};
 ghost use Rattle.rules.specs.declared.State.{State};
-ghost use Rattle.rules.specs.Numbers.{state_number, order_number, is_state};
+ghost use Rattle.rules.specs.Numbers.{is_state};
 ghost use Rattle.track.specs.Among.{chosen_among};
 ghost use Rattle.rules.specs.Places.{all_curves};
-ghost use Rattle.rules.specs.Speeds.{judged_now, vmax_of, permitted_speed};
-ghost use Rattle.rules.specs.Table.{order_of};
-ghost use Rattle.rules.specs.Odometer.{is_insufficient, seen_in};
+ghost use Rattle.rules.specs.Speeds.{judged_now, vmax_of};
+ghost use Rattle.rules.specs.Odometer.{seen_in};
 ghost use Rattle.rules.specs.Commands.{remembered};
-ghost use Rattle.curve.specs.Ground.{never};
-ghost use Rattle.areas.specs.Numbers.{area_number};
-ghost use Rattle.rules.specs.Reports.{causes_number, messages_of, offered_of, is_over, shown_fields, change_of, fields, report_in_da, test_order, report_of};
+ghost use Rattle.rules.specs.Reports.{causes_number, messages_of, offered_of, is_over, shown_fields, report_with, test_order, report_outside, report_of};
 
-use areas::area_number;
 use brake_test::{has_failed, has_passed, is_running, is_test_braking};
 use brakes::causes::{order_of, would_drop};
 use brakes::seeing::{is_insufficient, seen_with};
-use colours::{bar_number, mode_number, row_of, showing_number};
+use colours::{row_of, showing_number};
 use curve::Judged;
-use encoding::numbers::{is_state, order_number, state_number};
 use places::CURVES;
 use pressure::Measured;
 use refusals::padded;
 use rules::{
-    BrakeTest, Brakes, Candidate, Causes, Kept, Last, Order, Seen, Stage, State, Stm, Track, Train,
+    BrakeTest, Brakes, Candidate, Causes, Kept, Last, Order, Seen, Stage, State, Stm, Train,
 };
 use track::shows::{change_of, chosen, showing_of};
 use track::whole::{all_curves, braking_of, judge_now, permitted_speed, vmax_of};
-use wire::{REPORT_LENGTH, high, high_pair, low, low_pair};
+use wire::REPORT_LENGTH;
+
+// What a report in DA looks at beside the unit: what all that may be curves say, VMAX and what is seen.
+#[derive(Clone, Copy)]
+pub(crate) struct View {
+    pub(crate) judged: [Judged; CURVES],
+    pub(crate) vmax: u16,
+    pub(crate) seen: Seen,
+}
 
 // The four bytes of what is shown.
 #[derive(Clone, Copy)]
@@ -42,7 +45,7 @@ struct Shown {
 fn value(set: bool, bit: u16) -> u16
     ensures { (result ≡ cond set bit 0) × (result ≤ bit) }
 {
-    if set { bit } else { 0 }
+    u16::from(set) * bit
 }
 
 fn causes_number(c: Causes) -> u16
@@ -66,17 +69,16 @@ fn causes_number(c: Causes) -> u16
 fn messages_of(b: Brakes, feedback: Measured, test: BrakeTest, et: bool) -> u8
     ensures { result ≡ messages_of b feedback test et }
 {
-    let stage = test.stage;
-    let result = test.result;
     (value(b.drift, 1)
         + value(b.failed, 2)
         + value(feedback.fault, 4)
-        + value(is_running(stage), 8)
-        + value(has_passed(result), 16)
-        + value(has_failed(result), 32)
+        + value(is_running(test.stage), 8)
+        + value(has_passed(test.result), 16)
+        + value(has_failed(test.result), 32)
         + value(et, 64)) as u8
 }
 
+#[tactic(auto, unfolding(rules::specs::Reports::offered_of))]
 fn offered_of(s: Seen, c: Causes) -> u8
     ensures { result ≡ offered_of s c }
 {
@@ -84,89 +86,79 @@ fn offered_of(s: Seen, c: Causes) -> u8
 }
 
 // Whether the shown curve's permitted boundary is reached.
+#[tactic(auto, unfolding(rules::specs::Reports::is_over))]
 fn is_over(train: Train, kept: Kept, shown: Candidate) -> bool
     ensures { result ≡ is_over train kept shown }
 {
-    let curve = shown.curve;
     let braking = braking_of(train, kept.halka);
-    let leads = braking.leads;
-    curve::reached(curve, braking.level, kept.speed, leads.permitted)
+    curve::reached(
+        shown.curve,
+        braking.level,
+        kept.speed,
+        braking.leads.permitted,
+    )
 }
 
 // The shown curve's id, or 255.
 fn shown_id(shown: Candidate) -> u8
     ensures { result ≡ cond shown.judged.held shown.curve.id 255 }
 {
-    let curve = shown.curve;
-    let judged = shown.judged;
-    if judged.held { curve.id } else { 255 }
+    if shown.judged.held {
+        shown.curve.id
+    } else {
+        255
+    }
 }
 
+#[tactic(auto, unfolding(rules::specs::Reports::shown_fields))]
 fn shown_fields(over: bool, insufficient: bool, shown: Candidate) -> Shown
     ensures { (result.id ∷ result.interval ∷ result.bar ∷ result.mode ∷ []) ≡ shown_fields over insufficient shown }
 {
     let showing = showing_of(shown);
     let row = row_of(over, !insufficient, showing);
-    let bar = row.bar;
-    let mode = row.mode;
     Shown {
         id: shown_id(shown),
         interval: showing_number(showing),
-        bar: bar_number(bar),
-        mode: mode_number(mode),
+        bar: u8::from(row.bar),
+        mode: u8::from(row.mode),
     }
 }
 
-// In DA, where all that may be curves say this, VMAX is this and this is seen.
-fn report_in_da(
-    judged: [Judged; CURVES],
-    vmax: u16,
-    seen: Seen,
-    train: Train,
-    track: Track,
-    brakes: Brakes,
-    feedback: Measured,
-    test: BrakeTest,
-    kept: Kept,
-) -> [u8; REPORT_LENGTH]
-    ensures { result ≡ fields (state_number State.DA) (order_number (order_of train.softly brakes.causes)) (causes_number brakes.causes) (permitted_speed vmax judged) vmax (shown_fields (is_over train kept (chosen_among track.curves track.records judged)) (is_insufficient train feedback) (chosen_among track.curves track.records judged)) (messages_of brakes feedback test (chosen_among track.curves track.records judged).et) (offered_of seen brakes.causes) (change_of train kept (chosen_among track.curves track.records judged)) (area_number track.stay.area) }
+// In DA, where this is looked at.
+fn report_in_da(view: &View, stm: &Stm) -> [u8; REPORT_LENGTH]
+    ensures { result ≡ report_with view.now.judged view.now.vmax (chosen_among stm.now.track.curves stm.now.track.records view.now.judged) view.now.seen stm.now }
 {
-    let curves = track.curves;
-    let records = track.records;
-    let stay = track.stay;
-    let area = stay.area;
-    let causes = brakes.causes;
-    let number = causes_number(causes);
-    let permitted = permitted_speed(vmax, judged);
-    let candidate = chosen(curves, records, judged);
+    let causes = stm.brakes.causes;
+    let candidate = chosen(stm.track.curves, stm.track.records, view.judged);
     let shown = shown_fields(
-        is_over(train, kept, candidate),
-        is_insufficient(train, feedback),
+        is_over(stm.train, stm.kept, candidate),
+        is_insufficient(stm.train, stm.feedback),
         candidate,
     );
-    let change = change_of(train, kept, candidate);
-    let first = high_pair(change);
-    let last = low_pair(change);
+    let number = causes_number(causes).to_be_bytes();
+    let permitted = permitted_speed(view.vmax, view.judged).to_be_bytes();
+    let vmax = view.vmax.to_be_bytes();
+    let change = change_of(stm.train, stm.kept, candidate).to_be_bytes();
     [
-        state_number(State::DA),
-        order_number(order_of(train.softly, causes)),
-        high(number),
-        low(number),
-        high(permitted),
-        low(permitted),
-        high(vmax),
-        low(vmax),
+        u8::from(State::DA),
+        u8::from(order_of(stm.train.softly, causes)),
+        number[0],
+        number[1],
+        permitted[0],
+        permitted[1],
+        vmax[0],
+        vmax[1],
         shown.id,
         shown.interval,
         shown.bar,
         shown.mode,
-        messages_of(brakes, feedback, test, candidate.et),
-        offered_of(seen, causes),
-        high(first),
-        low(first),
-        high(last),
-        low(last),
-        area_number(area),
+        messages_of(stm.brakes, stm.feedback, stm.test, candidate.et),
+        offered_of(view.seen, causes),
+        change[0],
+        change[1],
+        change[2],
+        change[3],
+        u8::from(stm.track.stay.area),
     ]
 }
 
@@ -175,9 +167,9 @@ fn test_order(stage: Stage) -> u8
     ensures { result ≡ test_order stage }
 {
     if is_test_braking(stage) {
-        order_number(Order::Full)
+        u8::from(Order::Full)
     } else {
-        order_number(Order::Nothing)
+        u8::from(Order::Nothing)
     }
 }
 
@@ -185,31 +177,21 @@ fn test_order(stage: Stage) -> u8
 fn order_outside(state: State, stage: Stage) -> u8
     ensures { result ≡ cond (is_state State.FA state) 3 (cond (is_state State.DE state) (test_order stage) 0) }
 {
-    if is_state(State::FA, state) {
-        return 3;
+    match state {
+        State::FA => u8::from(Order::Emergency),
+        State::DE => test_order(stage),
+        _ => u8::from(Order::Nothing),
     }
-    if is_state(State::DE, state) {
-        return test_order(stage);
-    }
-    0
 }
 
 // Outside DA.
-pub fn report_outside(
-    state: State,
-    track: Track,
-    brakes: Brakes,
-    feedback: Measured,
-    test: BrakeTest,
-) -> [u8; REPORT_LENGTH]
-    ensures { result ≡ fields (state_number state) (cond (is_state State.FA state) 3 (cond (is_state State.DE state) (test_order test.stage) 0)) 0 0 0 (255 ∷ 0 ∷ 0 ∷ 0 ∷ []) (messages_of brakes feedback test false) 0 never (area_number track.stay.area) }
+#[tactic(auto, unfolding(rules::specs::Reports::report_outside))]
+fn report_outside(stm: &Stm) -> [u8; REPORT_LENGTH]
+    ensures { result ≡ report_outside stm.now.control.state (cond (is_state State.FA stm.now.control.state) 3 (cond (is_state State.DE stm.now.control.state) (test_order stm.now.test.stage) 0)) stm.now }
 {
-    let stay = track.stay;
-    let area = stay.area;
-    let stage = test.stage;
     [
-        state_number(state),
-        order_outside(state, stage),
+        u8::from(stm.control.state),
+        order_outside(stm.control.state, stm.test.stage),
         0,
         0,
         0,
@@ -220,87 +202,73 @@ pub fn report_outside(
         0,
         0,
         0,
-        messages_of(brakes, feedback, test, false),
+        messages_of(stm.brakes, stm.feedback, stm.test, false),
         0,
         255,
         255,
         255,
         255,
-        area_number(area),
+        u8::from(stm.track.stay.area),
     ]
 }
 
-// In DA, with all that is looked at judged here.
-fn report_now(stm: Stm) -> [u8; REPORT_LENGTH]
-    ensures { result ≡ report_in_da stm }
+// What the unit's report looks at, judged here.
+fn view_of(stm: &Stm) -> View
+    ensures { (result.judged ≡ judged_now stm.now.train stm.now.kept (all_curves stm.now.track)) × (result.vmax ≡ vmax_of stm.now.train stm.now.track) × (result.seen ≡ seen_in stm.now) }
 {
-    let train = stm.train;
-    let track = stm.track;
-    let brakes = stm.brakes;
-    let since = brakes.since;
-    let roll = brakes.roll;
-    let feedback = stm.feedback;
-    let test = stm.test;
-    let kept = stm.kept;
-    let judged = judge_now(train, kept, all_curves(track));
-    let vmax = vmax_of(train, track);
-    let seen = seen_with(judged, vmax, train, feedback, kept, since, roll);
-    report_in_da(
-        judged, vmax, seen, train, track, brakes, feedback, test, kept,
-    )
+    let judged = judge_now(stm.train, stm.kept, all_curves(stm.track));
+    let vmax = vmax_of(stm.train, stm.track);
+    let seen = seen_with(
+        judged,
+        vmax,
+        stm.train,
+        stm.feedback,
+        stm.kept,
+        stm.brakes.since,
+        stm.brakes.roll,
+    );
+    View { judged, vmax, seen }
+}
+
+// The report of a state of which it is known already what its report looks at.
+pub(crate) fn report_with(view: &View, stm: Stm) -> [u8; REPORT_LENGTH]
+    requires { (view.now.judged ≡ judged_now stm.train stm.kept (all_curves stm.track)) × (view.now.vmax ≡ vmax_of stm.train stm.track) × (view.now.seen ≡ seen_in stm) }
+    ensures { result ≡ report_of stm }
+{
+    if stm.control.state == State::DA {
+        report_in_da(view, &stm)
+    } else {
+        report_outside(&stm)
+    }
 }
 
 // The report of a state.
-fn report_of(stm: Stm) -> [u8; REPORT_LENGTH]
-    ensures { result ≡ report_of stm }
+fn report_of(stm: &Stm) -> [u8; REPORT_LENGTH]
+    ensures { result ≡ report_of stm.now }
 {
-    let control = stm.control;
-    let state = control.state;
-    if is_state(State::DA, state) {
-        return report_now(stm);
+    if stm.control.state == State::DA {
+        report_with(&view_of(stm), *stm)
+    } else {
+        report_outside(stm)
     }
-    let track = stm.track;
-    let brakes = stm.brakes;
-    let feedback = stm.feedback;
-    let test = stm.test;
-    report_outside(state, track, brakes, feedback, test)
 }
 
-// The report of a state of which it is known already what all that may be curves say, its VMAX and what is seen.
-pub(crate) fn report_with(
-    judged: [Judged; CURVES],
-    vmax: u16,
-    seen: Seen,
-    stm: Stm,
-) -> [u8; REPORT_LENGTH]
-    requires { (judged ≡ judged_now stm.train stm.kept (all_curves stm.track)) × (vmax ≡ vmax_of stm.train stm.track) × (seen ≡ seen_in stm) }
-    ensures { result ≡ report_of stm }
+// The command and its report are kept for a repeat.
+#[tactic(auto, unfolding(rules::specs::Commands::remembered))]
+pub(crate) fn keep(command: &[u8], stm: &mut Stm)
+    ensures { stm.new ≡ remembered command.now stm.old }
 {
-    let control = stm.control;
-    let state = control.state;
-    if is_state(State::DA, state) {
-        let train = stm.train;
-        let track = stm.track;
-        let brakes = stm.brakes;
-        let feedback = stm.feedback;
-        let test = stm.test;
-        let kept = stm.kept;
-        return report_in_da(
-            judged, vmax, seen, train, track, brakes, feedback, test, kept,
-        );
-    }
-    report_of(stm)
+    stm.last = Last {
+        bytes: padded(command),
+        report: report_of(stm),
+    };
 }
 
-// The unit after an accepted command: the command and its report are kept for a repeat.
+// The unit after an accepted command.
 pub fn remember(command: &[u8], stm: Stm) -> Stm
     ensures { result ≡ remembered command.now stm }
 {
     let mut next = stm;
-    let last = Last {
-        bytes: padded(command),
-        report: report_of(stm),
-    };
-    next.last = last;
+    keep(command, &mut next);
     next
 }

@@ -1,4 +1,6 @@
 // The fresh state.
+#![tactic(auto, unfolding(rules::specs::Commands::fresh_kept, rules::specs::Commands::fresh_last, rules::specs::Commands::no_train, rules::specs::Commands::fresh_with, rules::specs::Commands::fresh_stm))]
+
 ghost use Rattle.std.specs.Prelude.{◌≡◌};
 ghost use Rattle.rules.specs.Commands.{fresh_kept, fresh_last, no_train, fresh_with, fresh_stm};
 

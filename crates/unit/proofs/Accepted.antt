@@ -3,7 +3,8 @@ use mathlib.Core.Path.{◌≡◌, refl, sym, ap, ◌∙◌}
 use Prim.Native.Nat.{ℕ}
 use mathlib.Core.Bool.{true, false}
 use mathlib.Core.List.{List}
-use Rattle.wire.specs.declared.form.Form.{Form}
+use Rattle.std.specs.Prelude.{Result, Ok, Err, ⊤}
+use Rattle.wire.specs.declared.form.FormError.{FormError}
 use Rattle.wire.specs.Form.{form_of, operands_of, part_for, operand_part}
 use Rattle.rules.specs.Numbers.{is_accepted, is_answered, code_of}
 use Rattle.rules.specs.Operands.{code_byte}
@@ -16,14 +17,14 @@ use Rattle.rules.specs.declared.Outcome.{Outcome}
 use Rattle.rules.proofs.Tests.{impossible}
 
 -- an accepted command is whole, and its operands are what follows its number
-part_accepted : (form : Form) (stm : Stm) (command : List ℕ)
+part_accepted : (form : Result ⊤ FormError) (stm : Stm) (command : List ℕ)
     → is_accepted (answer_for form (whole_answer stm command)) ≡ true → part_for form command ≡ operands_of command
 unfolding part_for
-part_accepted Form.WrongArea stm command e = impossible e
-part_accepted Form.NoBytes stm command e = impossible e
-part_accepted Form.NoCode stm command e = impossible e
-part_accepted Form.WrongLength stm command e = impossible e
-part_accepted Form.Whole stm command e = refl
+part_accepted (Err FormError.WrongArea) stm command e = impossible e
+part_accepted (Err FormError.NoBytes) stm command e = impossible e
+part_accepted (Err FormError.NoCode) stm command e = impossible e
+part_accepted (Err FormError.WrongLength) stm command e = impossible e
+part_accepted (Ok passed) stm command e = refl
 
 operands_accepted : (stm : Stm) (command : List ℕ) (area : ℕ)
     → is_accepted (answer_of stm command area) ≡ true → operand_part command area ≡ operands_of command

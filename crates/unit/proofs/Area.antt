@@ -7,7 +7,8 @@ use lib.Dec.{eqb}
 use lib.ListN.{length}
 use borrow.Author.Tests.{eqb-true, eq-eqb, not-true}
 use Rattle.wire.specs.Bytes.{copied}
-use Rattle.wire.specs.declared.form.Form.{Form}
+use Rattle.std.specs.Prelude.{Result, Err, ⊤}
+use Rattle.wire.specs.declared.form.FormError.{FormError}
 use Rattle.wire.specs.Form.{report_length, form_of}
 use Rattle.rules.specs.Numbers.{is_accepted, is_answered, is_refused}
 use Rattle.rules.specs.Refusals.{whole_answer, answer_for, answer_of}
@@ -23,8 +24,8 @@ unfolding copied
 written bytes entry size e = rw size at e
 
 -- an answered call has an area of the report's length
-fits_form : (t : Bool) (form : Form) (stm : Stm) (command : List ℕ)
-    → is_answered (answer_for (cond (not t) Form.WrongArea form) (whole_answer stm command)) ≡ true → t ≡ true
+fits_form : (t : Bool) (form : Result ⊤ FormError) (stm : Stm) (command : List ℕ)
+    → is_answered (answer_for (cond (not t) (Err FormError.WrongArea) form) (whole_answer stm command)) ≡ true → t ≡ true
 fits_form true form stm command e = refl
 fits_form false form stm command e = impossible e
 

@@ -41,15 +41,11 @@ pub fn call(stm: Stm, command: &[u8], report: &mut [u8]) -> Outcome
     let answer = refusals::answer_of(stm, command, area);
     if is_accepted(answer) {
         let next = steps::accept(command, operands(command, area), stm);
-        let last = next.last;
-        let bytes = last.report;
-        write(bytes, report);
+        write(next.last.report, report);
         return Outcome { answer, stm: next };
     }
     if is_answered(answer) {
-        let before = stm.last;
-        let bytes = before.report;
-        write(bytes, report);
+        write(stm.last.report, report);
     }
     Outcome { answer, stm }
 }

@@ -1,13 +1,12 @@
 -- Equal bytes: `same_bytes` is true exactly where the two lists are equal. Assumes nothing.
-use Prim.Native.Nat.{ℕ, ◌+◌, ◌<◌, ◌≤◌}
+use Prim.Native.Nat.{ℕ}
 use mathlib.Core.Path.{◌≡◌, refl, ap₂}
 use mathlib.Core.Bool.{true, false, false≢true}
 use mathlib.Core.List.{List, [], ◌∷◌}
-use native.Mathlib.Numerals.{add-one}
 use lib.Dec.{eqb}
-use lib.ListN.{length, drop, get_or, drop_of_length-le}
-use lib.Seq.{drop-cons}
-use borrow.Author.Tests.{eqb-true, eq-eqb, ne_eqb}
+use borrow.Author.Tests.{eqb-true, eq-eqb}
+use Rattle.std.specs.Prelude.{cond, Bool, ◌&&◌, nat_eq}
+use Rattle.std.specs.Cmp.Lexicographic.{pointwise}
 use Rattle.wire.specs.Bytes.{same_bytes}
 use Rattle.laws.proofs.Lists.{cond_first}
 
@@ -28,16 +27,14 @@ same_self (x ∷ xs) = rw (eq-eqb x x refl) (same_self xs)
 pub equal_same : (a b : List ℕ) → a ≡ b → same_bytes a b ≡ true
 equal_same a b e = rw e (same_self b)
 
--- comparing from a place on
-module _ (a b : List ℕ) (i : ℕ) (h : i < length a) (k : i < length b) where
-  pub same_on : get_or a i 0 ≡ get_or b i 0 → same_bytes (drop i a) (drop i b) ≡ same_bytes (drop (i + 1) a) (drop (i + 1) b)
-  unfolding same_bytes
-  same_on t = rw (add-one, drop-cons a i 0 h, drop-cons b i 0 k, eq-eqb _ _ t)
-
-  pub same_off : (get_or a i 0 ≡ get_or b i 0 → ⊥) → same_bytes (drop i a) (drop i b) ≡ false
-  unfolding same_bytes
-  same_off t = rw (drop-cons a i 0 h, drop-cons b i 0 k, ne_eqb _ _ t)
-
-pub same_past : (a b : List ℕ) (i : ℕ) → length a ≤ i → length b ≤ i → same_bytes (drop i a) (drop i b) ≡ true
+-- the library's comparison of two lists says the same
+pub compared : (a b : List ℕ) → pointwise nat_eq a b ≡ same_bytes a b
 unfolding same_bytes
-same_past a b i h k = rw (drop_of_length-le a h, drop_of_length-le b k)
+compared [] [] = refl
+compared [] (y ∷ ys) = refl
+compared (x ∷ xs) [] = refl
+compared (x ∷ xs) (y ∷ ys) = rw (compared xs ys) (by (eqb x y))
+  where
+    by : (t : Bool) → (t && same_bytes xs ys) ≡ cond t (same_bytes xs ys) false
+    by true = refl
+    by false = refl

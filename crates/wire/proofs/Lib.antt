@@ -1,4 +1,5 @@
 pub mod Commands
+pub mod Digits
 pub mod Equal
 pub mod Table
 pub mod Values

@@ -1,41 +1,36 @@
 -- The laws of the table "Codes and whole lengths". Assumes nothing.
-use Prim.Native.Nat.{ℕ, ◌+◌, ◌<◌, ◌≤◌}
+use Prim.Native.Nat.{ℕ, ◌<◌, ◌≤◌}
 use mathlib.Core.Path.{◌≡◌, refl, sym, ap, ap₂}
 use mathlib.Core.Bool.{Bool, true, false, cond, false≢true}
 use mathlib.Core.List.Memᴰ
 use mathlib.Core.List.{List, [], ◌∷◌, map}
-use native.Mathlib.Numerals.{add-one}
 use lib.Dec.{eqb, leb}
-use lib.ListN.{length, drop, get_or, drop_of_length-le}
-use lib.Seq.{drop-cons}
-use borrow.Author.Tests.{eqb-true, leb-true, eq-eqb, ne_eqb}
+use lib.ListN.{length, get_or}
+use borrow.Author.Tests.{eqb-true, leb-true}
+use Rattle.std.specs.Prelude.{Option, None, Some, option_map, find}
 use Rattle.wire.specs.declared.codes.Row.{Row}
-use Rattle.wire.specs.declared.codes.Length.{Length}
 use Rattle.wire.specs.Codes.{row, shortest, longest, commands, length_in, length_of}
 use Rattle.laws.proofs.Lists.{◌∈◌, never, distinct_at, every_holds, cond_first}
 
--- looking a code up at a place of the table
-module _ (rows : List Row) (i c : ℕ) (h : i < length rows) where
-  pub look_here : (get_or rows i (row 0 0)).code ≡ c → length_in (drop i rows) c ≡ Length.Bytes (get_or rows i (row 0 0)).length
-  unfolding length_in
-  look_here t = rw (drop-cons rows i (row 0 0) h, eq-eqb _ c t)
-
-  pub look_on : ((get_or rows i (row 0 0)).code ≡ c → ⊥) → length_in (drop i rows) c ≡ length_in (drop (i + 1) rows) c
-  unfolding length_in
-  look_on t = rw (add-one, drop-cons rows i (row 0 0) h, ne_eqb _ c t)
-
-pub look_past : (rows : List Row) (i c : ℕ) → length rows ≤ i → length_in (drop i rows) c ≡ Length.NoCode
+-- what the iterator finds, and the length in its row
+pub length_found : (rows : List Row) (c : ℕ) → option_map (λ (r : Row). r.length) (find (λ (r : Row). eqb r.code c) rows) ≡ length_in rows c
 unfolding length_in
-look_past rows i c h = rw (drop_of_length-le rows h)
+length_found [] c = refl
+length_found (r ∷ rows) c = by (eqb r.code c) (length_found rows c)
+  where
+    by : (t : Bool) → option_map (λ (r : Row). r.length) (find (λ (r : Row). eqb r.code c) rows) ≡ length_in rows c
+        → option_map (λ (r : Row). r.length) (cond t (Some r) (find (λ (r : Row). eqb r.code c) rows)) ≡ cond t (Some r.length) (length_in rows c)
+    by true e = refl
+    by false e = e
 
-gives : ℕ → Length → Bool
-gives n (Length.Bytes m) = eqb m n
-gives n Length.NoCode = false
+gives : ℕ → Option ℕ → Bool
+gives n (Some m) = eqb m n
+gives n None = false
 
-gives_bytes : (n : ℕ) (l : Length) → gives n l ≡ true → l ≡ Length.Bytes n
+gives_bytes : (n : ℕ) (l : Option ℕ) → gives n l ≡ true → l ≡ Some n
 unfolding gives
-gives_bytes n (Length.Bytes m) e = ap Length.Bytes (eqb-true m n e)
-gives_bytes n Length.NoCode e = absurd (false≢true e)
+gives_bytes n (Some m) e = ap Some (eqb-true m n e)
+gives_bytes n None e = absurd (false≢true e)
 
 found : Row → Bool
 found r = gives r.length (length_of r.code)
@@ -44,24 +39,24 @@ within : Row → Bool
 within r = cond (leb shortest r.length) (leb r.length longest) false
 
 -- every row is found: its code gives its length
-pub row_found : {r : Row} → r ∈ commands → length_of r.code ≡ Length.Bytes r.length
+pub row_found : {r : Row} → r ∈ commands → length_of r.code ≡ Some r.length
 unfolding gives found commands length_in length_of
 row_found {r} m = gives_bytes r.length (length_of r.code) (every_holds found commands refl m)
 
-found_in : (rows : List Row) (c n : ℕ) → length_in rows c ≡ Length.Bytes n → row c n ∈ rows
+found_in : (rows : List Row) (c n : ℕ) → length_in rows c ≡ Some n → row c n ∈ rows
 unfolding length_in
 found_in [] c n e = absurd (never (cc))
 found_in (r ∷ rs) c n e = by (eqb r.code c) refl (found_in rs c n)
   where
-    by : (t : Bool) → eqb r.code c ≡ t → (length_in rs c ≡ Length.Bytes n → row c n ∈ rs) → row c n ∈ (r ∷ rs)
+    by : (t : Bool) → eqb r.code c ≡ t → (length_in rs c ≡ Some n → row c n ∈ rs) → row c n ∈ (r ∷ rs)
     by true t f =
-        let p : Length.Bytes r.length ≡ Length.Bytes n = rw t at e in
+        let p : Some r.length ≡ Some n = rw t at e in
         let q : n ≡ r.length = cc in
         Memᴰ.head (ap₂ row (sym (eqb-true r.code c t)) q)
     by false t f = Memᴰ.tail (f (rw t at e))
 
 -- and no other code is: a code that gives a length stands in a row with it
-pub found_row : (c n : ℕ) → length_of c ≡ Length.Bytes n → row c n ∈ commands
+pub found_row : (c n : ℕ) → length_of c ≡ Some n → row c n ∈ commands
 unfolding length_of
 found_row c n e = found_in commands c n e
 
@@ -74,17 +69,17 @@ unfolding commands
 codes_distinct i j h k = distinct_at codes refl i j h k
 
 -- no length is below that of the shortest or above that of the longest
-pub lengths_within : (c n : ℕ) → length_of c ≡ Length.Bytes n → (shortest ≤ n) × (n ≤ longest)
+pub lengths_within : (c n : ℕ) → length_of c ≡ Some n → (shortest ≤ n) × (n ≤ longest)
 unfolding commands within
 lengths_within c n e =
     let t = cond_first (leb shortest n) (leb n longest) false (every_holds within commands refl (found_row c n e)) false≢true in
     (leb-true shortest n t.0, leb-true n longest t.1)
 
 -- and both stand: 01 start is as long as the longest, 31 proceed signal has 5 bytes
-pub start_length : length_of 0x01 ≡ Length.Bytes longest
+pub start_length : length_of 0x01 ≡ Some longest
 unfolding commands length_in length_of
 start_length = refl
 
-pub proceed_length : length_of 0x31 ≡ Length.Bytes 5
+pub proceed_length : length_of 0x31 ≡ Some 5
 unfolding commands length_in length_of
 proceed_length = refl

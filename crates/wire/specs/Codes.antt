@@ -1,7 +1,6 @@
 -- The table "Codes and whole lengths" of 01, and the whole length that it gives a code.
-use Rattle.std.specs.Prelude.{ℕ, cond, List, [], ◌∷◌, eqb}
+use Rattle.std.specs.Prelude.{ℕ, cond, Option, None, Some, List, [], ◌∷◌, eqb}
 use Rattle.wire.specs.declared.codes.Row.{Row}
-use Rattle.wire.specs.declared.codes.Length.{Length}
 
 -- a row of the table: a code and the whole length of its command, in bytes
 abbrev pub row : ℕ → ℕ → Row
@@ -39,10 +38,10 @@ commands =
     []
 
 -- the length in the first of the rows that has the code
-unfoldable pub length_in : List Row → ℕ → Length
-length_in [] c = Length.NoCode
-length_in (r ∷ rs) c = cond (eqb r.code c) (Length.Bytes r.length) (length_in rs c)
+unfoldable pub length_in : List Row → ℕ → Option ℕ
+length_in [] c = None
+length_in (r ∷ rs) c = cond (eqb r.code c) (Some r.length) (length_in rs c)
 
--- 01, "Codes and whole lengths": the whole length of a code's command, or that the byte is no code
-unfoldable pub length_of : ℕ → Length
+-- 01, "Codes and whole lengths": the whole length of a code's command, and none where the byte is no code
+unfoldable pub length_of : ℕ → Option ℕ
 length_of c = length_in commands c

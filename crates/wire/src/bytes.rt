@@ -5,17 +5,7 @@ ghost use Rattle.wire.specs.Bytes.{same_bytes, copied};
 pub fn same(a: &[u8], b: &[u8]) -> bool
     ensures { result ≡ same_bytes a.now b.now }
 {
-    if a.len() != b.len() {
-        return false;
-    }
-    let mut i = 0;
-    while i < a.len() {
-        if a[i] != b[i] {
-            return false;
-        }
-        i += 1;
-    }
-    true
+    a == b
 }
 
 // Copies all of source where the target is as long, and otherwise nothing.
@@ -23,10 +13,6 @@ pub fn copy_whole(source: &[u8], target: &mut [u8])
     ensures { target.new ≡ copied source.now target.old }
 {
     if source.len() == target.len() {
-        let mut i = 0;
-        while i < source.len() {
-            target[i] = source[i];
-            i += 1;
-        }
+        target.copy_from_slice(source);
     }
 }

@@ -1,6 +1,6 @@
 // The command codes with their whole lengths.
 ghost use Rattle.std.specs.Prelude.{◌≡◌};
-ghost use Rattle.wire.specs.Codes.{length_of};
+ghost use Rattle.wire.specs.Codes.{length_in, length_of};
 
 // A row of the table: a code and the whole length of its command, in bytes.
 #[derive(Clone, Copy)]
@@ -81,24 +81,18 @@ pub const COMMANDS: [Row; CODES] = [
     },
 ];
 
-// The whole length that the table gives a code, or that the byte is no code.
-#[derive(Clone, Copy)]
-pub enum Length {
-    Bytes(usize),
-    NoCode,
+// The length in the first of the rows that has the code.
+fn length_in(rows: &[Row], code: u8) -> Option<usize>
+    ensures { result ≡ length_in rows.now code }
+{
+    rows.iter()
+        .find(|row| row.code == code)
+        .map(|row| row.length)
 }
 
-pub fn length_of(code: u8) -> Length
+// The whole length that the table gives a code, and none where the byte is no code.
+pub fn length_of(code: u8) -> Option<usize>
     ensures { result ≡ length_of code }
 {
-    let table = COMMANDS;
-    let mut i = 0;
-    while i < CODES {
-        let row = table[i];
-        if row.code == code {
-            return Length::Bytes(row.length);
-        }
-        i += 1;
-    }
-    Length::NoCode
+    length_in(&COMMANDS, code)
 }

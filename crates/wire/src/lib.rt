@@ -12,8 +12,8 @@ mod split;
 mod text;
 
 pub use bytes::{copy_whole, same};
-pub use codes::{CODES, COMMANDS, LONGEST, Length, Row, SHORTEST, length_of};
-pub use form::{Form, REPORT_LENGTH, form_of, operands};
+pub use codes::{CODES, COMMANDS, LONGEST, Row, SHORTEST, length_of};
+pub use form::{FormError, REPORT_LENGTH, form_of, operands};
 pub use numbers::{be16, be32, byte_at, high, high_pair, low, low_pair, signed8, signed16};
-pub use split::{Next, next_command};
+pub use split::{RestError, next_command};
 pub use text::digit;

@@ -5,62 +5,54 @@ ghost use Rattle.wire.specs.Numbers.{byte_at, number, signed, high_byte, low_byt
 pub fn byte_at(s: &[u8], at: usize) -> u8
     ensures { result ≡ byte_at s.now at }
 {
-    if at < s.len() { s[at] } else { 0 }
+    s.get(at).copied().unwrap_or(0)
 }
 
 // The bytes from a place on, and none past the end.
 fn from(s: &[u8], at: usize) -> &[u8]
     ensures { result.now ≡ drop at s.now }
 {
-    if at <= s.len() { &s[at..] } else { &s[..0] }
+    s.get(at..).unwrap_or(&[])
 }
 
 pub fn be16(s: &[u8], at: usize) -> u16
     ensures { result ≡ number 2 (drop at s.now) }
 {
     let t = from(s, at);
-    (byte_at(t, 0) as u16) * 256 + (byte_at(t, 1) as u16)
+    u16::from_be_bytes([byte_at(t, 0), byte_at(t, 1)])
 }
 
 pub fn be32(s: &[u8], at: usize) -> u32
     ensures { result ≡ number 4 (drop at s.now) }
 {
     let t = from(s, at);
-    (be16(t, 0) as u32) * 65536 + (be16(t, 2) as u32)
+    u32::from_be_bytes([byte_at(t, 0), byte_at(t, 1), byte_at(t, 2), byte_at(t, 3)])
 }
 
 // A byte read in two's complement.
-pub fn signed8(x: u8) -> i8
-    ensures { result ≡ signed 256 x }
+pub fn signed8(byte: u8) -> i8
+    ensures { result ≡ signed 256 byte }
 {
-    if x < 128 {
-        x as i8
-    } else {
-        ((x as i16) - 256) as i8
-    }
+    byte.cast_signed()
 }
 
 // A two-byte number read in two's complement.
 pub fn signed16(x: u16) -> i16
     ensures { result ≡ signed 65536 x }
 {
-    if x < 32768 {
-        x as i16
-    } else {
-        ((x as i32) - 65536) as i16
-    }
+    x.cast_signed()
 }
 
 pub fn high(x: u16) -> u8
     ensures { result ≡ high_byte x }
 {
-    (x / 256) as u8
+    x.to_be_bytes()[0]
 }
 
 pub fn low(x: u16) -> u8
     ensures { result ≡ low_byte x }
 {
-    (x % 256) as u8
+    x.to_be_bytes()[1]
 }
 
 // The first two bytes of four.

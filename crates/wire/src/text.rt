@@ -6,6 +6,5 @@ ghost use Rattle.wire.specs.Text.{digit_of};
 pub fn digit(x: u8) -> u8
     ensures { result ≡ digit_of x }
 {
-    let low = x % 16;
-    if low < 10 { low + 48 } else { low + 55 }
+    b"0123456789ABCDEF"[(x % 16) as usize]
 }

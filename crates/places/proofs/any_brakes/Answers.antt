@@ -1,19 +1,11 @@
-use mathlib.Core.Path.{refl, ◌∙◌}
-use native.Mathlib.Omega.{arith}
-use borrow.Author.Rules.{rules}
-use Rattle.places.proofs.Loops.{any_step, any_end}
+use Rattle.std.proofs.Common.{rules, tests}
+use Rattle.std.proofs.lemmas.Iterator.{YieldsList-from_slice}
+use Rattle.std.proofs.lemmas.Iterator.Search.{any_from_yields_List}
+use Rattle.places.specs.Places.{brakes_from, any_brakes}
 use Rattle.places.proofs.any_brakes.Goals as goal
 
-pub loop-i-init : goal.loop-i-init
-loop-i-init c = (omega arith, search rules, refl)
-
-pub loop-i-preserved : goal.loop-i-preserved
-loop-i-preserved c =
-    let a = c.args in
-    let step = any_step a.interval a.judged c.loop-i.i c.loop-i.any c.brakes_from-any.ensures (omega arith) in
-    (omega arith, c.loop-i.invariant.1, step ∙ c.loop-i.invariant.2)
-
 pub returns : goal.returns
+unfolding any_brakes
 returns c =
     let a = c.args in
-    any_end a.interval a.judged c.loop-i.i c.loop-i.any (omega arith) ∙ c.loop-i.invariant.2
+    any_from_yields_List (brakes_from a.interval) _ _ _ c.any.ensures.ran (YieldsList-from_slice a.judged (cc)) (λ x b q k. search (rules, tests))

@@ -19,10 +19,12 @@ loop-i-init c = (omega arith, search rules, refl, refl)
 pub loop-i-preserved : goal.loop-i-preserved
 loop-i-preserved c =
     let a = c.args in
-    let step = map_step (judged_here a.braking a.v) a.curves (start c.none_judged-none.result) c.loop-i.i no_curve c.judge_here.ensures (omega arith) (omega arith) in
-    (omega arith, c.loop-i.invariant.1, c.loop-i.invariant.2, rw c.loop-i.invariant.3 step)
+    let i = c.loop-i.invariant in
+    let step = map_step (judged_here a.braking a.v) a.curves (start c.none_judged-judged.result) c.loop-i.i no_curve c.judge_here.ensures (search rules) (search rules) in
+    (omega arith, i.1, i.2, rw i.3 step)
 
 pub returns : goal.returns
 returns c =
     let a = c.args in
-    c.loop-i.invariant.3 ∙ copy_past (judged_all a.braking a.v a.curves) (start c.none_judged-none.result) c.loop-i.i (simp length-map (omega arith)) (omega arith)
+    c.loop-i.invariant.3
+    ∙ copy_past (judged_all a.braking a.v a.curves) (start c.none_judged-judged.result) c.loop-i.i (simp length-map (search rules)) (search rules)

@@ -1,4 +1,4 @@
-use Prim.Native.Nat.{◌≤◌, ◌-◌}
+use Prim.Native.Nat.{◌≤◌}
 use mathlib.Core.Path.{◌≡◌}
 use mathlib.Core.List.{◌++◌}
 use lib.ListN.{length, take, drop}
@@ -6,7 +6,4 @@ use Rattle.places.specs.Places.{most_curves, judged_all}
 use Rattle.places.proofs.judge_all.Given as goal
 
 abbrev pub invariant-loop-i : goal.invariant-loop-i
-invariant-loop-i l = (l.i ≤ most_curves) × (length l.curves ≡ most_curves) × (length l.initial.judged ≡ most_curves) × (l.judged ≡ take l.i (judged_all l.braking l.v l.curves) ++ drop l.i l.initial.judged)
-
-abbrev pub decreases-loop-i : goal.decreases-loop-i
-decreases-loop-i l = most_curves - l.i
+invariant-loop-i l = (l.i ≤ most_curves) × (length l.curve-items ≡ most_curves) × (length l.initial.judged ≡ most_curves) × (l.judged ≡ take l.i (judged_all l.braking l.v l.curve-items) ++ drop l.i l.initial.judged)

@@ -1,12 +1,9 @@
-use Prim.Native.Nat.{◌≤◌, ◌-◌}
+use Prim.Native.Nat.{◌≤◌}
 use mathlib.Core.Path.{◌≡◌}
 use mathlib.Core.List.{◌++◌}
-use lib.ListN.{length, take, drop}
+use lib.ListN.{take, drop}
 use Rattle.places.specs.Places.{places, moved_all}
 use Rattle.places.proofs.move_all.Given as goal
 
-abbrev pub invariant-loop-i : goal.invariant-loop-i
-invariant-loop-i l = (l.i ≤ places) × (length l.curves ≡ places) × (l.next ≡ take l.i (moved_all l.moved l.curves) ++ drop l.i l.curves)
-
-abbrev pub decreases-loop-i : goal.decreases-loop-i
-decreases-loop-i l = places - l.i
+abbrev pub invariant-loop-curve : goal.invariant-loop-curve
+invariant-loop-curve l = (l.curve-index ≤ places) × (l.curve-items ≡ take l.curve-index (moved_all l.moved l.fn.curves) ++ drop l.curve-index l.fn.curves)

@@ -1,4 +1,4 @@
-use Prim.Native.Nat.{◌≤◌, ◌-◌}
+use Prim.Native.Nat.{◌≤◌}
 use mathlib.Core.Path.{◌≡◌}
 use mathlib.Core.List.{◌++◌}
 use lib.ListN.{length, take, drop}
@@ -6,7 +6,4 @@ use Rattle.places.specs.Places.{places, most_curves, noted_all}
 use Rattle.places.proofs.note_all.Given as goal
 
 abbrev pub invariant-loop-i : goal.invariant-loop-i
-invariant-loop-i l = (l.i ≤ places) × (length l.curves ≡ places) × (length l.judged ≡ most_curves) × (l.next ≡ take l.i (noted_all l.curves l.judged) ++ drop l.i l.curves)
-
-abbrev pub decreases-loop-i : goal.decreases-loop-i
-decreases-loop-i l = places - l.i
+invariant-loop-i l = (l.i ≤ places) × (length l.judged ≡ most_curves) × (l.curve-items ≡ take l.i (noted_all l.fn.curves l.judged) ++ drop l.i l.fn.curves)

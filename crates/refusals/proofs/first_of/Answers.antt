@@ -1,34 +1,33 @@
+use Rattle.std.proofs.Common.{rules, tests, refl, ap, ◌≡◌, ◌∙◌, Bool, true, false, List, [], ◌∷◌, map, Bor, Option, Some, None}
+use Rattle.std.specs.List.{find}
+use Rattle.std.specs.Option.{option_map, option_map_or}
+use Rattle.std.proofs.lemmas.Iterator.{YieldsList-from_slice}
+use Rattle.std.proofs.lemmas.Iterator.Search.{find_from_yields_List}
+use mathlib.Core.Bool.{cond}
+use Rattle.rules.specs.declared.Answer.{Answer}
+use Rattle.rules.specs.Refusals.{rule, first_of}
 use Rattle.refusals.proofs.first_of.Goals as goal
 
-pub returns-then-t : goal.returns-then-t
-returns-then-t c = rw c.if-t.true
+-- the first that applies, and that none does
+abbrev answered : Option (Bool × Answer) → Answer
+answered found = option_map_or (λ r. r.1) found Answer.Accepted
 
-pub returns-then-t-2 : goal.returns-then-t-2
-returns-then-t-2 c = rw (c.if-t-2.true, c.if-t.false)
+step : (t : Bool) (answer : Answer) (found : Option (Bool × Answer))
+    → answered (cond t (Some (t, answer)) found) ≡ cond t answer (answered found)
+step true answer found = refl
+step false answer found = refl
 
-pub returns-then-t-3 : goal.returns-then-t-3
-returns-then-t-3 c = rw (c.if-t-3.true, c.if-t-2.false, c.if-t.false)
+first : (rules : List (Bool × Answer)) → answered (find (λ r. r.0) rules) ≡ first_of (map (λ r. rule r.0 r.1) rules)
+first [] = refl
+first ((t, answer) ∷ rules) = step t answer (find (λ r. r.0) rules) ∙ ap (cond t answer) (first rules)
 
-pub returns-then-t-4 : goal.returns-then-t-4
-returns-then-t-4 c = rw (c.if-t-4.true, c.if-t-3.false, c.if-t-2.false, c.if-t.false)
-
-pub returns-then-t-5 : goal.returns-then-t-5
-returns-then-t-5 c =
-    rw (
-      c.if-t-5.true,
-      c.if-t-4.false,
-      c.if-t-3.false,
-      c.if-t-2.false,
-      c.if-t.false,
-    )
+lent : (found : Option (Bor (Bool × Answer))) → option_map_or (λ r. r.now.1) found Answer.Accepted ≡ answered (option_map (λ r. r.now) found)
+lent None = refl
+lent (Some r) = refl
 
 pub returns : goal.returns
 returns c =
-    rw (
-      c.if-t-5.false,
-      c.if-t-4.false,
-      c.if-t-3.false,
-      c.if-t-2.false,
-      c.if-t.false,
-    )
-    c.later_of.ensures
+    let given : c.map_or.result ≡ option_map_or (λ (r : Bor (Bool × Answer)). r.now.1) c.find.result Answer.Accepted = search rules in
+    let found : option_map (λ (r : Bor (Bool × Answer)). r.now) c.find.result ≡ find (λ r. r.0) c.args.rules.now =
+    find_from_yields_List (λ r. r.0) _ _ _ c.find.ensures.ran (YieldsList-from_slice c.args.rules.now cc) (λ x b q k. search (rules, tests)) in
+    given ∙ lent c.find.result ∙ ap answered found ∙ first c.args.rules.now

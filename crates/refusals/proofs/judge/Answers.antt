@@ -1,5 +1,5 @@
 use Prim.Native.Nat.{ℕ, ◌+◌}
-use mathlib.Core.Path.{◌≡◌}
+use mathlib.Core.Path.{◌≡◌, ap, ◌∙◌}
 use mathlib.Core.Bool.{Bool, not, ◌&&◌, ◌||◌}
 use mathlib.Core.List.{List, [], ◌∷◌}
 use lib.Dec.{eqb}
@@ -18,11 +18,12 @@ use Rattle.rules.specs.declared.Answer.{Answer}
 use Rattle.rules.specs.declared.Code.{Code}
 use Rattle.rules.specs.declared.State.{State}
 use Rattle.rules.specs.declared.Stm.{Stm}
+use Rattle.rules.proofs.Equality.{same_code, same_state}
 use Rattle.refusals.proofs.judge.Goals as goal
 
 -- the first rule that applies, by the values of the tests
 judged : (stm : Stm) (command s : List ℕ) {byte : ℕ} {code : Code} {id number : ℕ}
-    {start tests last next failed range allowed da set absent full de running untaken filled kept : Bool} {answer : Answer}
+    {start tests last next failed range allowed da set absent full outside running untaken filled kept : Bool} {answer : Answer}
     → byte ≡ byte_at command 0
     → code ≡ code_of byte
     → id ≡ byte_at s 0
@@ -41,7 +42,7 @@ judged : (stm : Stm) (command s : List ℕ) {byte : ℕ} {code : Code} {id numbe
     || is_code Code.EndRecord code && not (holds_record id stm.track.records))
     → full ≡ (is_code Code.NewCurve code && not (holds_curve id stm.track.curves) && all_curves_held stm.track.curves
     || is_code Code.NewSection code && not (holds_section id stm.track.sections) && all_sections_held stm.track.sections)
-    → de ≡ is_state State.DE stm.control.state
+    → outside ≡ not (is_state State.DE stm.control.state)
     → running ≡ is_running stm.test.stage
     → untaken ≡ (is_code Code.AreaEvent code && not (is_taken stm.track.stay.area (event_in s)))
     → filled ≡ (is_code Code.NewRecord code && not (holds_record id stm.track.records) && all_records_held stm.track.records)
@@ -57,7 +58,7 @@ judged : (stm : Stm) (command s : List ℕ) {byte : ℕ} {code : Code} {id numbe
     ∷ rule (da && not set) Answer.NoReference
     ∷ rule absent Answer.NotHeld
     ∷ rule full Answer.AllHeld
-    ∷ rule (tests && not de) Answer.OutsideDE
+    ∷ rule (tests && outside) Answer.OutsideDE
     ∷ rule (tests && running) Answer.TestRunning
     ∷ rule untaken Answer.NotTaken
     ∷ rule filled Answer.NoRecordPlace
@@ -77,18 +78,18 @@ returns c =
     c.code_of-code.ensures
     c.byte_at-id.ensures
     c.be32-number.ensures
-    c.is_code-start.ensures
-    c.is_code-tests.ensures
+    (c.eq-start.ensures ∙ same_code c.code_of-code.result Code.Start)
+    (c.eq-tests.ensures ∙ same_code c.code_of-code.result Code.TestBrakes)
     c.is_last.ensures
     c.is_next.ensures
-    c.is_state.ensures
+    (c.eq.ensures ∙ same_state c.args.stm.control.state State.FA)
     c.in_range.ensures
     c.is_allowed.ensures
     c.orders_da.ensures
     c.has_reference.ensures
     c.ends_nothing.ensures
     c.finds_no_place.ensures
-    c.is_state-2.ensures
+    (c.ne.ensures ∙ ap not (same_state c.args.stm.control.state State.DE))
     c.is_running.ensures
     c.is_untaken.ensures
     c.finds_no_record_place.ensures

@@ -1,94 +1,16 @@
--- A turn writes the sheet of all that can be given of the bytes at hand, so that what is written is the sheet of what has come.
-use Rattle.std.proofs.Common.{rules, ◌≡◌, ◌≤◌, arith, length, take, sym, ap, ◌∙◌}
-use Rattle.std.specs.Prelude.{eqb}
+use Rattle.std.specs.Prelude.{◌-◌, ◌^◌, ◌<◌, length}
 use Rattle.std.specs.Io.KnownBytes.{Appends}
 use Rattle.console.specs.Bytes.{AppendsFront}
-use Rattle.portions.specs.Portions.{given_of, left_of}
-use Rattle.portions.specs.Reads.{text_by, state_by}
-use Rattle.printing.specs.Sheets.{fresh_trip, printer, handed_on}
-use Rattle.stdio.proofs.Standing.{starts, begun, where_few, not_few}
-use Rattle.stdio.proofs.Turning.{front_is_text, all_is_front, kept_is_left, turn_whole, turn_begun, turn_on}
-use Rattle.trip_sheet.proofs.Sheet.{of_the_sheet}
+use Rattle.trip_sheet.proofs.Sheet.{of_the_sheet, ok_of_the_sheet}
 use Rattle.trip_sheet.proofs.run.Goals as goal
 
-pub loop-turns-init : goal.loop-turns-init
-loop-turns-init g c = (rw c.fresh-trip.ensures (starts printer fresh_trip _ _), (search rules, omega arith))
-
-pub returns-in_err-to-clause-beginning : goal.returns-in_err-to-clause-beginning
-returns-in_err-to-clause-beginning g c = of_the_sheet _ (AppendsFront _ _) (begun printer fresh_trip c.loop-turns.invariant.0)
+pub returns-clause-whole : goal.returns-clause-whole
+returns-clause-whole g c =
+    ok_of_the_sheet c.run_from.result _
+    (λ input text. length input < 2 ^ 64 - 1 → Appends (g.W.Write.contents c.args.stdout.now) (g.W.Write.contents c.run_from.new.stdout) text)
+    (rw c.fresh.ensures at c.run_from.ensures.whole)
 
 pub returns-clause-beginning : goal.returns-clause-beginning
-returns-clause-beginning g c = of_the_sheet _ (AppendsFront _ _) (begun printer fresh_trip c.loop-turns.invariant.0)
-
-pub returns-in_err-write-clause-beginning : goal.returns-in_err-write-clause-beginning
-unfolding handed_on
-returns-in_err-write-clause-beginning g c =
-    let to = c.in_ok-to.to in
-    let input = c.read.new.input in
-    let came = c.in_ok-to.ensures in
-    let room : to ≤ length input = search rules in
-    let turned = c.turn-handed.ensures in
-    let text = text_by printer c.loop-turns.trip (given_of (eqb to c.loop-turns.left) (take to input)).portions in
-    let out : take c.turn-handed.result.written c.turn-handed.new.output ≡ text =
-    rw (ap (λ h. h.written) turned.outcome, turned.written) (front_is_text text _) in
-    of_the_sheet _ (AppendsFront _ _)
-    (turn_begun printer fresh_trip c.loop-turns.invariant.0 to input _ _
-    (record { within = came.lower_bound; room = room; kept = came.input_unchanged; came = came.bytes; end = λ e. came.end e (omega arith) })
-    (rw out at c.in_err-write.ensures.err))
-
-pub returns-then-handed-clause-whole : goal.returns-then-handed-clause-whole
-unfolding handed_on
-returns-then-handed-clause-whole g c =
-    let to = c.in_ok-to.to in
-    let input = c.read.new.input in
-    let came = c.in_ok-to.ensures in
-    let room : to ≤ length input = search rules in
-    let turned = c.turn-handed.ensures in
-    let text = text_by printer c.loop-turns.trip (given_of (eqb to c.loop-turns.left) (take to input)).portions in
-    let out : take c.turn-handed.result.written c.turn-handed.new.output ≡ text =
-    rw (ap (λ h. h.written) turned.outcome, turned.written) (front_is_text text _) in
-    where_few _ _ _ (of_the_sheet _ (Appends _ _)
-    (turn_whole printer fresh_trip c.loop-turns.invariant.0 to input _ _
-    (record { within = came.lower_bound; room = room; kept = came.input_unchanged; came = came.bytes; end = λ e. came.end e (omega arith) })
-    (rw out at c.in_ok-write.ensures.ok) (ap (λ h. h.ended) (sym turned.outcome) ∙ c.if-handed.true)))
-
-pub returns-clause-whole : goal.returns-clause-whole
-returns-clause-whole g c = not_few printer fresh_trip c.loop-turns.invariant.0 _ _ (omega (arith, c.loop-turns.invariant.1.1))
-
-pub returns-then-handed-clause-beginning : goal.returns-then-handed-clause-beginning
-unfolding handed_on
-returns-then-handed-clause-beginning g c =
-    let to = c.in_ok-to.to in
-    let input = c.read.new.input in
-    let came = c.in_ok-to.ensures in
-    let room : to ≤ length input = search rules in
-    let turned = c.turn-handed.ensures in
-    let text = text_by printer c.loop-turns.trip (given_of (eqb to c.loop-turns.left) (take to input)).portions in
-    let out : take c.turn-handed.result.written c.turn-handed.new.output ≡ text =
-    rw (ap (λ h. h.written) turned.outcome, turned.written) (front_is_text text _) in
-    of_the_sheet _ (AppendsFront _ _)
-    (turn_begun printer fresh_trip c.loop-turns.invariant.0 to input _ _
-    (record { within = came.lower_bound; room = room; kept = came.input_unchanged; came = came.bytes; end = λ e. came.end e (omega arith) })
-    (all_is_front _ _ text (rw out at c.in_ok-write.ensures.ok)))
-
-pub loop-turns-preserved : goal.loop-turns-preserved
-unfolding handed_on left_of
-loop-turns-preserved g c =
-    let to = c.in_ok-to.to in
-    let input = c.read.new.input in
-    let came = c.in_ok-to.ensures in
-    let room : to ≤ length input = search rules in
-    let turned = c.turn-handed.ensures in
-    let text = text_by printer c.loop-turns.trip (given_of (eqb to c.loop-turns.left) (take to input)).portions in
-    let out : take c.turn-handed.result.written c.turn-handed.new.output ≡ text =
-    rw (ap (λ h. h.written) turned.outcome, turned.written) (front_is_text text _) in
-    let given = given_of (eqb to c.loop-turns.left) (take to input) in
-    let stood = turn_on printer fresh_trip c.loop-turns.invariant.0 to input _ _
-    (record { within = came.lower_bound; room = room; kept = came.input_unchanged; came = came.bytes; end = λ e. came.end e (omega arith) })
-    (rw out at c.in_ok-write.ensures.ok) (ap (λ h. h.ended) (sym turned.outcome) ∙ c.if-handed.false) in
-    let state : c.turn-handed.result.trip ≡ state_by printer c.loop-turns.trip given.portions = ap (λ h. h.trip) turned.outcome in
-    let used = ap (λ h. h.used) turned.outcome in
-    let count : c.keep-left.result ≡ length (left_of (eqb to c.loop-turns.left) (take to input)) = c.keep-left.ensures.value ∙ rw used in
-    let kept : take c.keep-left.result c.keep-left.new.input ≡ left_of (eqb to c.loop-turns.left) (take to input) =
-    rw (c.keep-left.ensures.value, c.keep-left.ensures.input_after, used) (kept_is_left (eqb to c.loop-turns.left) (take to input) input) in
-    rw (state, kept) (stood.0, (rw count stood.1.0, omega (arith, stood.1.1, c.loop-turns.invariant.1.1)))
+returns-clause-beginning g c =
+    of_the_sheet _ (λ input text. AppendsFront (g.W.Write.contents c.args.stdout.now) (g.W.Write.contents c.run_from.new.stdout) text)
+    (rw c.fresh.ensures at c.run_from.ensures.beginning)

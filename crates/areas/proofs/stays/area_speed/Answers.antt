@@ -1,11 +1,14 @@
 use mathlib.Core.Path.{sym, ◌∙◌}
+use Rattle.areas.proofs.Equality.{same_area}
 use Rattle.areas.specs.Stays.{area_speed}
+use Rattle.areas.specs.declared.Area.{Area}
 use Rattle.areas.proofs.stays.area_speed.Goals as goal
 
-pub returns-then-is_area : goal.returns-then-is_area
+pub returns-then-eq : goal.returns-then-eq
 unfolding area_speed
-returns-then-is_area c = rw (sym c.is_area.ensures ∙ c.if-is_area.true) c.line_speed.ensures
+returns-then-eq c =
+    rw (sym (same_area c.args.stay.area Area.Partial) ∙ sym c.eq.ensures ∙ c.if-eq.true) c.unwrap_or.ensures
 
-pub returns : goal.returns
+pub returns-else-eq : goal.returns-else-eq
 unfolding area_speed
-returns c = rw (sym c.is_area.ensures ∙ c.if-is_area.false)
+returns-else-eq c = rw (sym (same_area c.args.stay.area Area.Partial) ∙ sym c.eq.ensures ∙ c.if-eq.false)

@@ -1,19 +1,9 @@
-use mathlib.Core.Path.{refl}
+use Rattle.std.proofs.Common.{rules, tests}
 use Rattle.records.specs.Lives.{moved_record}
-use Rattle.boards.proofs.Loops.{zero_record, change_step, change_end}
-use borrow.Author.Rules.{rules}
-use native.Mathlib.Omega.{arith}
+use Rattle.places.proofs.Arrays.{mapped}
 use Rattle.boards.proofs.held.move_records.Goals as goal
-
-pub loop-i-init : goal.loop-i-init
-loop-i-init c = (omega arith, search rules, refl)
-
-pub loop-i-preserved : goal.loop-i-preserved
-loop-i-preserved c =
-    let a = c.args in
-    change_step (moved_record a.moved) a.ets zero_record c.loop-i.invariant (omega arith) c.moved_record.ensures
 
 pub returns : goal.returns
 returns c =
     let a = c.args in
-    change_end (moved_record a.moved) a.ets c.loop-i.invariant (omega arith)
+    mapped _ (moved_record a.moved) _ (λ x r q k. search (rules, tests)) a.ets _ _ (search rules) c.map.ensures.items

@@ -3,5 +3,4 @@ use Rattle.brakes.proofs.causes.dropped.Goals as goal
 
 pub returns : goal.returns
 unfolding is_dropped is_releasable
-returns c =
-    rw (c.releasable-free.ensures, c.others_releasable.ensures)
+returns c = rw (c.common.ensures, c.pressed.ensures, c.releasable-free.ensures, c.others_releasable.ensures)

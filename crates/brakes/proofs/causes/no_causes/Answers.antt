@@ -1,7 +1,6 @@
-use mathlib.Core.Path.{refl}
 use Rattle.rules.specs.Table.{no_causes}
 use Rattle.brakes.proofs.causes.no_causes.Goals as goal
 
 pub returns : goal.returns
 unfolding no_causes
-returns c = refl
+returns c = c.alike.ensures

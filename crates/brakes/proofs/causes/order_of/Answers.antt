@@ -9,33 +9,33 @@ returns-then-stands_with c = rw (sym c.stands_with.ensures ∙ c.if-stands_with.
 pub returns-then-stands_with-2 : goal.returns-then-stands_with-2
 unfolding order_of
 returns-then-stands_with-2 c =
-    rw (sym c.stands_with.ensures ∙ c.if-stands_with.false, sym c.stands_with-2.ensures ∙ c.if-stands_with-2.true)
+    rw (sym c.stands_with.ensures ∙ c.if-stands_with.false, sym c.stands_with-else-stands_with.ensures ∙ c.if-stands_with-2.true)
 
 pub returns-then-softly : goal.returns-then-softly
 unfolding order_of
 returns-then-softly c =
     rw (
       sym c.stands_with.ensures ∙ c.if-stands_with.false,
-      sym c.stands_with-2.ensures ∙ c.if-stands_with-2.false,
-      sym c.stands_with-3.ensures ∙ c.if-stands_with-3.true,
+      sym c.stands_with-else-stands_with.ensures ∙ c.if-stands_with-2.false,
+      sym c.stands_with-else-stands_with-2.ensures ∙ c.if-stands_with-3.true,
       c.if-softly.true,
     )
 
-pub returns-then-stands_with-3 : goal.returns-then-stands_with-3
+pub returns-else-softly : goal.returns-else-softly
 unfolding order_of
-returns-then-stands_with-3 c =
+returns-else-softly c =
     rw (
       sym c.stands_with.ensures ∙ c.if-stands_with.false,
-      sym c.stands_with-2.ensures ∙ c.if-stands_with-2.false,
-      sym c.stands_with-3.ensures ∙ c.if-stands_with-3.true,
+      sym c.stands_with-else-stands_with.ensures ∙ c.if-stands_with-2.false,
+      sym c.stands_with-else-stands_with-2.ensures ∙ c.if-stands_with-3.true,
       c.if-softly.false,
     )
 
-pub returns : goal.returns
+pub returns-else-stands_with-3 : goal.returns-else-stands_with-3
 unfolding order_of
-returns c =
+returns-else-stands_with-3 c =
     rw (
       sym c.stands_with.ensures ∙ c.if-stands_with.false,
-      sym c.stands_with-2.ensures ∙ c.if-stands_with-2.false,
-      sym c.stands_with-3.ensures ∙ c.if-stands_with-3.false,
+      sym c.stands_with-else-stands_with.ensures ∙ c.if-stands_with-2.false,
+      sym c.stands_with-else-stands_with-2.ensures ∙ c.if-stands_with-3.false,
     )

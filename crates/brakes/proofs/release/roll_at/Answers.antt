@@ -10,6 +10,6 @@ pub returns-then-r : goal.returns-then-r
 unfolding roll_at
 returns-then-r c = rw (sym c.is_halt.ensures ∙ c.if-is_halt.false, c.if-r.true) c.rolled_on.ensures
 
-pub returns : goal.returns
+pub returns-else-r : goal.returns-else-r
 unfolding roll_at
-returns c = rw (sym c.is_halt.ensures ∙ c.if-is_halt.false, c.if-r.false)
+returns-else-r c = rw (sym c.is_halt.ensures ∙ c.if-is_halt.false, c.if-r.false)

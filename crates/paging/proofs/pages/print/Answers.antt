@@ -25,7 +25,7 @@ returns-then-sheet-lt-PAGE_LINES c =
     let a = c.args in
     let e = entry a.number a.report in
     let other = sym c.is_different.ensures ∙ c.if-not-is_different.false in
-    rw (on_page a.room.now a.sheet e c.if-room-lt-ADDED.false other c.if-sheet-lt-PAGE_LINES.true, c.printed_as-printed.ensures)
+    rw (on_page a.room.now a.sheet e c.if-room-lt-ADDED.false other c.if-sheet-lt-PAGE_LINES.true, c.printed_as.ensures)
     record { sheet_after = refl; count = sym (line_is_whole e).bytes; short = omega arith; written = one_put a.room.now (line_for e) _ _ c.line_for.ensures (line_is_whole e).bytes c.put_line.ensures }
 
 pub returns-then-sheet-lt-LAST_PAGE : goal.returns-then-sheet-lt-LAST_PAGE
@@ -33,7 +33,7 @@ returns-then-sheet-lt-LAST_PAGE c =
     let a = c.args in
     let e = entry a.number a.report in
     let other = sym c.is_different.ensures ∙ c.if-not-is_different.false in
-    rw (next_page a.room.now a.sheet e c.if-room-lt-ADDED.false other c.if-sheet-lt-PAGE_LINES.false c.if-sheet-lt-LAST_PAGE.true, c.printed_as-printed.ensures) record {
+    rw (next_page a.room.now a.sheet e c.if-room-lt-ADDED.false other c.if-sheet-lt-PAGE_LINES.false c.if-sheet-lt-LAST_PAGE.true, c.printed_as.ensures) record {
       sheet_after = refl;
       count = two_long (header_of (a.sheet.page + 1)) (line_for e) (header_is_whole (a.sheet.page + 1)).bytes (line_is_whole e).bytes;
       short = omega arith;

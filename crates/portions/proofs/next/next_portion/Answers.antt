@@ -2,22 +2,22 @@ use mathlib.Core.Path.{sym}
 use Rattle.portions.specs.Portions.{portion_at, next_portion}
 use Rattle.portions.proofs.next.next_portion.Goals as goal
 
-pub returns-in-End : goal.returns-in-End
+pub returns-in-Ok-None : goal.returns-in-Ok-None
 unfolding next_portion portion_at
-returns-in-End c = rw (sym c.next_command.ensures.outcome, c.in-End.is)
+returns-in-Ok-None c = rw (sym c.next_command.ensures.outcome, c.in-Ok-None.is, c.in-Ok-None.field-0-is)
 
-pub returns-in-NoCode : goal.returns-in-NoCode
+pub returns-in-Ok-Some : goal.returns-in-Ok-Some
 unfolding next_portion portion_at
-returns-in-NoCode c = rw (sym c.next_command.ensures.outcome, c.in-NoCode.is)
+returns-in-Ok-Some c = rw (sym c.next_command.ensures.outcome, c.in-Ok-Some.is, c.in-Ok-Some.field-0-is)
+
+pub returns-in-Err-NoCode : goal.returns-in-Err-NoCode
+unfolding next_portion portion_at
+returns-in-Err-NoCode c = rw (sym c.next_command.ensures.outcome, c.in-Err-NoCode.is, c.in-Err-NoCode.field-0-is)
 
 pub returns-then-all : goal.returns-then-all
 unfolding next_portion portion_at
-returns-then-all c = rw (sym c.next_command.ensures.outcome, c.in-Short.is, c.if-all.true)
+returns-then-all c = rw (sym c.next_command.ensures.outcome, c.in-Err-Short.is, c.in-Err-Short.field-0-is, c.if-all.true)
 
 pub returns-else-all : goal.returns-else-all
 unfolding next_portion portion_at
-returns-else-all c = rw (sym c.next_command.ensures.outcome, c.in-Short.is, c.if-all.false)
-
-pub returns-in-Command : goal.returns-in-Command
-unfolding next_portion portion_at
-returns-in-Command c = rw (sym c.next_command.ensures.outcome, c.in-Command.is)
+returns-else-all c = rw (sym c.next_command.ensures.outcome, c.in-Err-Short.is, c.in-Err-Short.field-0-is, c.if-all.false)

@@ -11,4 +11,4 @@ returns-then-reports-lt9 c = simp (lt-ltb (c.args.reports + 1) 10 (omega arith))
 
 pub returns : goal.returns
 unfolding set_of changed_of
-returns c = rw (c.changed-pressures.ensures, le-ltb (c.args.reports + 1) 10 (omega arith))
+returns c = rw (c.changed-reference.ensures, le-ltb (c.args.reports + 1) 10 (omega arith))

@@ -12,4 +12,4 @@ pub returns : goal.returns
 unfolding stopped
 returns c =
     let a = c.args in
-    rw (c.brakes_by-next.ensures, c.with_forty-next.ensures, either (eqb a.which 1) a.stm.track.forty)
+    rw (c.brakes_by.ensures, either (eqb a.which 1) a.stm.track.forty)

@@ -1,15 +1,13 @@
 use mathlib.Core.Path.{sym, ◌∙◌}
-use Rattle.steps.proofs.Outside.{report_inside, report_elsewhere}
+use Rattle.rules.specs.declared.State.{State}
+use Rattle.rules.proofs.Equality.{same_state}
+use Rattle.steps.proofs.Outside.{report_elsewhere}
 use Rattle.steps.proofs.report.report_of.Goals as goal
 
-pub returns-then-is_state : goal.returns-then-is_state
-returns-then-is_state c =
-    c.report_now.ensures ∙ sym (report_inside c.args.stm (sym c.is_state.ensures ∙ c.if-is_state.true))
-
-pub returns : goal.returns
-returns c =
-    let stm = c.args.stm in
+pub returns-else-eq : goal.returns-else-eq
+returns-else-eq c =
+    let stm = c.args.stm.now in
     rw (
+      report_elsewhere stm (sym (c.eq.ensures ∙ same_state stm.control.state State.DA) ∙ c.if-eq.false),
       c.report_outside.ensures,
-      report_elsewhere stm (sym c.is_state.ensures ∙ c.if-is_state.false),
     )

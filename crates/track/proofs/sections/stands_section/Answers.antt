@@ -1,20 +1,14 @@
-use mathlib.Core.Path.{refl}
-use mathlib.Core.Bool.{not, ◌&&◌}
-use native.Mathlib.Omega.{arith}
-use borrow.Author.Rules.{rules}
-use Rattle.rules.specs.Places.{free_section, is_section}
-use Rattle.boards.proofs.Loops.{any_step, any_end}
+use Rattle.std.proofs.Common.{Bool, not, ◌&&◌, ◌∙◌, rules, tests}
+use Rattle.std.proofs.lemmas.Iterator.{YieldsList-from_slice}
+use Rattle.std.proofs.lemmas.Iterator.Search.{any_from_yields_List}
+use Rattle.rules.specs.declared.Section.{Section}
+use Rattle.rules.specs.Places.{is_section}
+use Rattle.holding.proofs.Loops.{any_of_is}
 use Rattle.track.proofs.sections.stands_section.Goals as goal
-
-pub loop-i-init : goal.loop-i-init
-loop-i-init c = (omega arith, search rules, refl)
-
-pub loop-i-preserved : goal.loop-i-preserved
-loop-i-preserved c =
-    let a = c.args in
-    any_step (λ section. is_section a.id section && not section.ending) a.sections c.loop-i.any free_section c.loop-i.invariant (omega arith) c.is_standing-any.ensures
 
 pub returns : goal.returns
 returns c =
     let a = c.args in
-    any_end (λ section. is_section a.id section && not section.ending) a.sections c.loop-i.invariant (omega arith)
+    let test : Section → Bool = λ section. is_section a.id section && not section.ending in
+    any_from_yields_List test _ _ c.any.result c.any.ensures.ran (YieldsList-from_slice a.sections (cc)) (λ x b q k. search (rules, tests))
+    ∙ any_of_is test a.sections

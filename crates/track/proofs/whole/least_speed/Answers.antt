@@ -1,26 +1,23 @@
-use Prim.Native.Nat.{◌+◌, ◌-◌}
-use mathlib.Core.Path.{◌≡◌}
-use native.Mathlib.Omega.{arith}
-use lib.ListN.{length, drop_of_length-le}
-use borrow.Author.Rules.{rules}
-use Rattle.laws.proofs.Lists.{drop_step}
-use Rattle.places.specs.Places.{places}
-use Rattle.rules.specs.Places.{free_section}
+use Rattle.std.proofs.Common.{◌≡◌, ℕ, min, List, [], ◌∷◌, map, refl, ap, ◌∙◌, arith, rules, tests}
+use mathlib.Core.List.{foldr}
+use Rattle.std.specs.List.{fold}
+use Rattle.std.proofs.lemmas.Iterator.{YieldsList-from_slice}
+use Rattle.std.proofs.lemmas.Iterator.Consumers.{fold_from_yields_List}
+use Rattle.rules.specs.Speeds.{section_speed}
 use Rattle.track.proofs.whole.least_speed.Goals as goal
 
-pub loop-i-init : goal.loop-i-init
-loop-i-init c =
-    let whole : length c.args.sections ≡ places = search rules in
-    (omega arith, whole, rw (drop_of_length-le c.args.sections {i = places} (omega arith)))
+module _ {A : Type 0} (f : A → ℕ) where
+  -- the least is the same whether the first or the last comes first
+  less_last : (a b : ℕ) (xs : List A) → foldr min (min a b) (map f xs) ≡ min b (foldr min a (map f xs))
+  less_last a b [] = omega arith
+  less_last a b (x ∷ xs) = ap (min (f x)) (less_last a b xs) ∙ omega arith
 
-pub loop-i-preserved : goal.loop-i-preserved
-loop-i-preserved c =
-    let l = c.args.sections in
-    let back : c.loop-i.i - 1 + 1 ≡ c.loop-i.i = omega arith in
-    let first = drop_step l (c.loop-i.i - 1) free_section (omega arith) in
-    (omega arith, c.loop-i.invariant.1, rw (c.lower-least.ensures, c.section_speed.ensures, c.loop-i.invariant.2, first, back))
+  least_forward : (a : ℕ) (xs : List A) → fold (λ least x. min least (f x)) a xs ≡ foldr min a (map f xs)
+  least_forward a [] = refl
+  least_forward a (x ∷ xs) = least_forward (min a (f x)) xs ∙ less_last a (f x) xs
 
 pub returns : goal.returns
 returns c =
-    let start : c.loop-i.i ≡ 0 = omega arith in
-    rw (c.loop-i.invariant.2, start)
+    let a = c.args in
+    fold_from_yields_List _ (λ least section. min least (section_speed a.speed section)) a.speed _ c.fold.ensures.ran (YieldsList-from_slice a.sections (cc)) (λ p x b q k. search (rules, tests))
+    ∙ least_forward (section_speed a.speed) a.speed a.sections

@@ -1,10 +1,9 @@
-use mathlib.Core.Path.{sym}
 use lib.ListN.{drop}
-use Rattle.wire.proofs.Values.{number_add}
+use Rattle.wire.proofs.Values.{four_bytes}
 use Rattle.wire.proofs.numbers.be32.Goals as goal
 
 pub returns : goal.returns
 returns c =
     let a = c.args in
-    rw (c.be16-2.ensures, c.be16.ensures, c.from-t.ensures)
-    (sym (number_add 2 2 (drop a.at a.s.now)))
+    rw (c.from_be_bytes.ensures, c.byte_at-4.ensures, c.byte_at-3.ensures, c.byte_at-2.ensures, c.byte_at.ensures, c.from-t.ensures)
+    (four_bytes (drop a.at a.s.now))

@@ -1,8 +1,6 @@
-use borrow.Author.Tests.{lt-ltb, le-ltb}
+use Rattle.wire.proofs.Digits.{hex, digit_stands}
 use Rattle.wire.proofs.text.digit.Goals as goal
 
-pub returns-then-low-lt10 : goal.returns-then-low-lt10
-returns-then-low-lt10 c = simp (lt-ltb _ _ c.if-low-lt10.true)
-
-pub returns-else-low-lt10 : goal.returns-else-low-lt10
-returns-else-low-lt10 c = simp (le-ltb _ _ c.if-low-lt10.false)
+pub returns : goal.returns
+unfolding hex
+returns c = digit_stands c.args.x

@@ -1,4 +1,0 @@
-use Rattle.boards.proofs.life.noted_record.Goals as goal
-
-pub returns : goal.returns
-returns c = rw (c.with_curve.ensures, c.noted.ensures)

@@ -1,4 +1,0 @@
-use Rattle.places.proofs.brakes_from.Goals as goal
-
-pub returns : goal.returns
-returns c = rw (c.rank_of-2.ensures, c.rank_of.ensures)

@@ -1,8 +1,0 @@
-use mathlib.Core.Path.{sym, ◌∙◌}
-use Rattle.track.proofs.sections.told_section.Goals as goal
-
-pub returns-then-is_section : goal.returns-then-is_section
-returns-then-is_section c = rw (c.ending_section.ensures, sym c.is_section.ensures ∙ c.if-is_section.true)
-
-pub returns-else-is_section : goal.returns-else-is_section
-returns-else-is_section c = rw (sym c.is_section.ensures ∙ c.if-is_section.false)
