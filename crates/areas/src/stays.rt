@@ -12,7 +12,8 @@ fn begun_stay(area: Area, line: Option<u16>) -> Stay
     Stay {
         area,
         line,
-        missing: None, // a change of area ends a pending 50 m
+        // A change of area ends a pending 50 m.
+        missing: None,
     }
 }
 
@@ -27,10 +28,8 @@ pub fn fresh_stay() -> Stay
 pub fn cleared_stay(stay: Stay) -> Stay
     ensures { result ≡ cleared_stay stay }
 {
-    Stay {
-        missing: None,
-        ..stay
-    }
+    let missing = None;
+    Stay { missing, ..stay }
 }
 
 // The line speed that an event brings.
@@ -45,7 +44,7 @@ pub fn passed_stay(event: Event, speed: u16, stay: Stay) -> Stay
     ensures { result ≡ passed_stay event speed stay }
 {
     if event == Event::NoOverlap {
-        // the ground counts from the first such group
+        // The ground counts from the first such group.
         let missing = stay.missing.or(Some(0));
         return Stay { missing, ..stay };
     }

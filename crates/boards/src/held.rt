@@ -1,4 +1,5 @@
 // The places of ET records: a new one, an ended one, which ids are held; signals, ground and notes at all of them.
+// What places have in common is `holding`'s.
 ghost use Rattle.std.specs.Prelude.{◌≡◌, not, ◌&&◌, ◌++◌, map, drop};
 ghost use Rattle.places.specs.Places.{places};
 ghost use Rattle.records.specs.Lives.{is_superseded, as_curve, moved_record};
@@ -80,8 +81,8 @@ pub fn move_records(moved: u16, ets: [EtRecord; RECORDS]) -> [EtRecord; RECORDS]
     ets.map(|et| moved_record(moved, et))
 }
 
-// The records with their past in B noted; what they say as curves stands behind what the curves say. By the index,
-// since of a loop over places to be written, zipped with a slice, a proof learns no element.
+// The records with their past in B noted; what they say as curves stands behind what the curves say. It goes by the index: of
+// a loop over `iter_mut` zipped with a slice, the checker tells a proof nothing of the slice's element.
 pub fn note_records(ets: [EtRecord; RECORDS], judged: [Judged; CURVES]) -> [EtRecord; RECORDS]
     ensures { result ≡ noted_records ets (drop places judged) }
 {

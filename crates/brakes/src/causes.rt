@@ -1,12 +1,13 @@
 // The table of causes, column by column; each column is the causes for which its test passes.
-ghost use Rattle.std.specs.Prelude.{◌≡◌, not, ◌&&◌, ◌||◌, false, ◌+◌, ◌*◌, leb};
-ghost use Rattle.rules.specs.Numbers.{is_order};
+ghost use Rattle.std.specs.Prelude.{ℕ, ◌≡◌, not, ◌&&◌, ◌||◌, false, ◌+◌, ◌*◌, leb};
+ghost use Rattle.rules.specs.Numbers.{incident_of, is_order};
 ghost use Rattle.rules.specs.declared.Cause.{Cause};
-ghost use Rattle.rules.specs.Table.{stands, causes_for, no_causes, curve_orders, ordered_at, is_stop, ordered_by, strength_of, stands_with, any_stands, order_of, is_slow, releasable_when, others_releasable, added_causes, pressed_for, is_dropped, left_causes};
+ghost use Rattle.rules.specs.declared.Code.{Code};
+ghost use Rattle.rules.specs.Table.{stands, causes_for, no_causes, curve_orders, ordered_at, ordered_by, strength_of, stands_with, any_stands, order_of, is_slow, releasable_when, others_releasable, added_causes, pressed_for, is_dropped, left_causes};
 ghost use Rattle.rules.specs.Reports.{would_drop};
 
 use crate::hold::is_unheld;
-use rules::{Causes, Code, Order, Seen};
+use rules::{Causes, Incident, Order, Seen};
 
 // Every cause, or none.
 fn alike(stands: bool) -> Causes
@@ -127,27 +128,37 @@ pub fn added_at(s: Seen, fault: bool, c: Causes) -> Causes
     together(c, ordered)
 }
 
-// Whether a command is a stop passed of this kind.
-pub fn is_stop(wanted: u8, code: Code, which: u8) -> bool
-    ensures { result ≡ is_stop wanted code which }
+// The causes that another command orders, by what it tells.
+fn ordered_by(incident: Option<Incident>) -> Causes
+    ensures { (code : Code) (which : ℕ) → incident_of code which ≡ incident → result ≡ causes_for (ordered_by code which) }
 {
-    (code == Code::StopPassed) & (which == wanted)
+    match incident {
+        Some(Incident::AimedStop) => Causes {
+            aimed: true,
+            ..no_causes()
+        },
+        Some(Incident::UnexpectedStop) => Causes {
+            unexpected: true,
+            speed: true,
+            ..no_causes()
+        },
+        Some(Incident::Landslide) => Causes {
+            landslide: true,
+            ..no_causes()
+        },
+        Some(Incident::BaliseError) => Causes {
+            balise: true,
+            ..no_causes()
+        },
+        None => no_causes(),
+    }
 }
 
-// The causes with those ordered by another command, with its first operand.
-pub fn added_by(code: Code, which: u8, c: Causes) -> Causes
-    ensures { result ≡ added_causes (ordered_by code which) c }
+// The causes with those that it orders.
+pub fn added_by(incident: Option<Incident>, c: Causes) -> Causes
+    ensures { (code : Code) (which : ℕ) → incident_of code which ≡ incident → result ≡ added_causes (ordered_by code which) c }
 {
-    let unexpected = is_stop(1, code, which);
-    let ordered = Causes {
-        aimed: is_stop(0, code, which),
-        unexpected,
-        speed: unexpected,
-        landslide: is_stop(2, code, which),
-        balise: code == Code::BaliseError,
-        ..no_causes()
-    };
-    together(c, ordered)
+    together(c, ordered_by(incident))
 }
 
 // ---- the column "Strength"

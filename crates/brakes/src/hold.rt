@@ -1,8 +1,8 @@
 // How bit 9 is held after a balise error.
 ghost use Rattle.std.specs.Prelude.{◌≡◌};
-ghost use Rattle.rules.specs.Hold.{is_up_to80, decided_at, held_on, is_unheld, hold_by};
+ghost use Rattle.rules.specs.Hold.{is_up_to80, decided_at, held_on, is_unheld};
 
-use rules::{Code, Hold};
+use rules::Hold;
 
 fn is_up_to_80(v: u16) -> bool
     ensures { result ≡ is_up_to80 v }
@@ -11,24 +11,13 @@ fn is_up_to_80(v: u16) -> bool
 }
 
 // By the speed at the error.
-fn decided_at(v: u16) -> Hold
+pub(crate) fn decided_at(v: u16) -> Hold
     ensures { result ≡ decided_at v }
 {
     if is_up_to_80(v) {
         Hold::Low(0)
     } else {
         Hold::High
-    }
-}
-
-// After a command that adds causes, with the last odometer figure.
-pub fn hold_by(code: Code, v: u16, hold: Hold) -> Hold
-    ensures { result ≡ hold_by code v hold }
-{
-    if code == Code::BaliseError {
-        decided_at(v)
-    } else {
-        hold
     }
 }
 

@@ -1,11 +1,13 @@
 // What brakes, through an odometer report in DA and through commands 30 and 32.
-ghost use Rattle.std.specs.Prelude.{◌≡◌, min};
+ghost use Rattle.std.specs.Prelude.{ℕ, ◌≡◌, min};
+ghost use Rattle.rules.specs.declared.Code.{Code};
+ghost use Rattle.rules.specs.Numbers.{incident_of};
 ghost use Rattle.rules.specs.Releases.{fresh_brakes, is_halt, is_braked, since_at, rolled_on, roll_at, is_rolled, roll_back, noted_brakes, service_fails, emergency_fails, added_brakes, roll_left, left_brakes, released_brakes, since_by, brakes_by};
 
-use crate::causes::{added_at, added_by, any_stands, is_stop, left_causes, no_causes, stands_with};
+use crate::causes::{added_at, added_by, any_stands, left_causes, no_causes, stands_with};
 use crate::check::{check_left, checked_at, checked_by, fails_at};
-use crate::hold::{held_on, hold_by};
-use rules::{Brakes, Causes, Check, Code, Hold, Order, Reading, Seen, Since, Train};
+use crate::hold::{decided_at, held_on};
+use rules::{Brakes, Causes, Check, Hold, Incident, Order, Reading, Seen, Since, Train};
 
 // No cause, no count, no note, no brake fault.
 pub fn fresh_brakes() -> Brakes
@@ -105,7 +107,7 @@ fn service_fails(train: Train, dropped: bool, b: Brakes) -> bool
     fails_at(any_stands(b.causes), train.times.brake, dropped, b.service)
 }
 
-// The check of an emergency order fails at T_EBCHK.
+// The check of an emergency order fails at T_EBCHK. It differs from the other in cause, limit and check, and `fails_at` is what they share.
 fn emergency_fails(train: Train, dropped: bool, b: Brakes) -> bool
     ensures { result ≡ emergency_fails train dropped b }
 {
@@ -178,25 +180,39 @@ pub fn released_brakes(s: Seen, loss: bool, text: bool, b: Brakes) -> Brakes
 
 // ---- commands 30 and 32
 
-fn since_by(code: Code, which: u8, v: u16, since: Since) -> Since
-    ensures { result ≡ since_by code which v since }
+// A cause that is ordered anew is noted afresh.
+fn since_by(incident: Option<Incident>, v: u16, since: Since) -> Since
+    ensures { (code : Code) (which : ℕ) → incident_of code which ≡ incident → result ≡ since_by code which v since }
 {
-    Since {
-        aimed: since.aimed & !is_stop(0, code, which),
-        unexpected: since.unexpected & !is_stop(1, code, which),
-        landslide: since.landslide & !is_stop(2, code, which),
-        balise: hold_by(code, v, since.balise),
+    match incident {
+        Some(Incident::AimedStop) => Since {
+            aimed: false,
+            ..since
+        },
+        Some(Incident::UnexpectedStop) => Since {
+            unexpected: false,
+            ..since
+        },
+        Some(Incident::Landslide) => Since {
+            landslide: false,
+            ..since
+        },
+        Some(Incident::BaliseError) => Since {
+            balise: decided_at(v),
+            ..since
+        },
+        None => since,
     }
 }
 
-// The brakes with the causes that a command adds; v is the last odometer figure.
-pub fn brakes_by(code: Code, which: u8, v: u16, b: Brakes) -> Brakes
-    ensures { result ≡ brakes_by code which v b }
+// The brakes with the causes that a command adds, by what it tells; v is the last odometer figure.
+pub fn brakes_by(incident: Option<Incident>, v: u16, b: Brakes) -> Brakes
+    ensures { (code : Code) (which : ℕ) → incident_of code which ≡ incident → result ≡ brakes_by code which v b }
 {
-    let after = added_by(code, which, b.causes);
+    let after = added_by(incident, b.causes);
     Brakes {
         causes: after,
-        since: since_by(code, which, v, b.since),
+        since: since_by(incident, v, b.since),
         service: checked_by(any_stands(b.causes), any_stands(after), b.service),
         emergency: checked_by(
             stands_with(Order::Emergency, b.causes),

@@ -16,7 +16,7 @@ pub fn is_insufficient(train: Train, feedback: Measured) -> bool
     pressure::drop_of(feedback.pressures) < f32::from(train.sufficient)
 }
 
-// Where the curves say this, and VMAX is this.
+// Where the curves say this, and VMAX is this: by the parameters of the definition, one by one.
 pub fn seen_with(
     judged: [Judged; CURVES],
     vmax: u16,

@@ -1,4 +1,4 @@
-// Reading until a buffer is full and writing all of one, as the programs do.
+// Reading until a buffer is full, reading a record, and writing all of a buffer, as the programs do.
 #![tactic(auto)]
 
 ghost use Rattle.std.specs.Prelude.{◌≡◌, ◌^◌, ◌<◌, length, take, None, IfOk, IfSome, OnOk, OnErr};

@@ -30,7 +30,7 @@ unfoldable pub most_before : (ℕ → Bool) → ℕ → ℕ
 most_before test distance = cond (test distance) (largest_failing test distance) never
 
 -- "The boundary rule shall tell, besides reached or not, the most whole centimetres the train can still cover at its present speed":
--- here, with the boundary not reached; `None`, or 0, where it is
+-- here, with the boundary not reached; `None` where it is, which `left_of` makes 0
 unfoldable pub reach_of : Curve → ℕ → ℕ → ℕ → Option ℕ
 reach_of curve level v T =
     cond (is_reached curve level v T) None (Some (most_before (λ n. is_reached (moved_by curve n) level v T) curve.distance))

@@ -90,7 +90,7 @@ impl Line {
         81 * b as i64 * (distance as i64 - self.lead as i64)
     }
 
-    // Whether it holds, with both sides taken so many times.
+    // Whether it holds, with both sides multiplied by `times`.
     pub(crate) fn holds(self, times: u8) -> bool
         requires { times ≤ 9 }
         ensures { result ≡ line_for self.curve self.level (50 * times) self.u (10 * times) self.lead }
@@ -111,7 +111,7 @@ impl Line {
         self.curve.distance - 1 - reaches as u32
     }
 
-    // What it tells where it is asked, above the curve's target, and elsewhere that it is never reached.
+    // What is left to the boundary where the speed is above the curve's target (`asked`), and else that it is never reached.
     pub(crate) fn reach(self, asked: bool) -> Option<u32>
         requires { asked ≡ true → target_of self.curve < self.u }
         ensures { result ≡ cond asked (cond (line_for self.curve self.level 50 self.u 10 self.lead) None (Some (most_before (λ n. line_for (moved_by self.curve n) self.level 50 self.u 10 self.lead) self.curve.distance))) (Some never) }

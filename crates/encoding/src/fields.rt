@@ -26,6 +26,7 @@ fn within(least: u16, most: u16, x: u16) -> bool
 
 // ---- 01 start
 
+// `From<bool>` would not say which of the two is which.
 fn feed_of(cylinder: bool) -> Feed
     ensures { result ≡ feed_of cylinder }
 {
@@ -187,8 +188,7 @@ pub fn section_of(s: &[u8]) -> Section
         held: true,
         id: byte_at(s, 0),
         speed: be16(s, 1),
-        ending: false,
-        covered: 0,
+        ending: None,
     }
 }
 
@@ -231,7 +231,7 @@ fn event_in_range(s: &[u8]) -> bool
 
 // ---- 51 ET record, 52 signal passed
 
-// The category of a byte from 0 to 3.
+// The category of a byte from 0 to 3: a range below refuses the others.
 fn category_of(byte: u8) -> Category
     ensures { result ≡ category_of byte }
 {
@@ -260,6 +260,7 @@ fn new_record_in_range(s: &[u8]) -> bool
     (byte_at(s, 1) <= 3) & curve_in_range(record_of(s).curve)
 }
 
+// The signal of a byte 0 or 1: a range below refuses the others.
 fn signal_of(byte: u8) -> Signal
     ensures { result ≡ signal_of byte }
 {
@@ -276,6 +277,7 @@ pub fn signal_in(s: &[u8]) -> Signal
     signal_of(byte_at(s, 0))
 }
 
+// The route of a byte 0 or 1: a range below refuses the others.
 fn route_of(byte: u8) -> Route
     ensures { result ≡ route_of byte }
 {

@@ -1,8 +1,8 @@
-// 01's numbers: of answers, and the codes and states of bytes.
+// 01's numbers: of answers, and the codes, stops and states of bytes.
 ghost use Rattle.std.specs.Prelude.{◌≡◌};
-ghost use Rattle.rules.specs.Numbers.{answer_number, is_accepted, is_answered, code_of, state_of};
+ghost use Rattle.rules.specs.Numbers.{answer_number, is_accepted, is_answered, code_of, stop_of, state_of};
 
-use rules::{Answer, Code, State};
+use rules::{Answer, Code, Incident, State};
 
 // The paper's number of an answer.
 pub fn answer_number(answer: Answer) -> u8
@@ -44,6 +44,18 @@ pub fn code_of(byte: u8) -> Code
         0x51 => Code::NewRecord,
         0x52 => Code::SignalPassed,
         _ => Code::EndRecord,
+    }
+}
+
+// The stop of command 30's byte. Refusal 9 has gone before a byte that is none.
+pub fn stop_of(byte: u8) -> Option<Incident>
+    ensures { result ≡ stop_of byte }
+{
+    match byte {
+        0 => Some(Incident::AimedStop),
+        1 => Some(Incident::UnexpectedStop),
+        2 => Some(Incident::Landslide),
+        _ => None,
     }
 }
 

@@ -66,8 +66,7 @@ impl Place for Section {
             held: false,
             id: 0,
             speed: 0,
-            ending: false,
-            covered: 0,
+            ending: None,
         }
     }
 
@@ -85,8 +84,7 @@ impl Place for Section {
 
     fn ended(self) -> Section {
         Section {
-            ending: true,
-            covered: 0,
+            ending: Some(0),
             ..self
         }
     }

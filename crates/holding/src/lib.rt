@@ -1,5 +1,5 @@
 // Places, each of which holds one of something by its id, or none: what curves, sections and ET records have in common.
-// A place is a value with a flag, as the state has it in arrays of fixed size, and a free one has figures of its own.
+// A place is a value with a flag, as the state has it in arrays of fixed size, and the figures of a free place are fixed.
 //
 // No public function has a `requires`: each is defined at every value of its parameters.
 #![tactic(auto)]
@@ -10,7 +10,7 @@ ghost use Rattle.holding.specs.Holding.{is_at, replaced_at, given, ended_at};
 
 mod held;
 
-// A place of one that has an id.
+// A place for one thing, known by its id.
 pub trait Place: Copy {
     // A place that holds none.
     ghost free: { Self };

@@ -68,7 +68,7 @@ pub fn shown_of(past: bool, interval: Interval) -> Shown
     }
 }
 
-// The report's number for a shown interval. Its type is another crate's, so that `From` can't stand here.
+// The report's number for a shown interval. `Shown` and `u8` are not this crate's, so an impl of `From` can't stand here.
 pub fn shown_number(shown: Shown) -> u8
     ensures { result ≡ shown_number shown }
 {

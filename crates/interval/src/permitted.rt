@@ -9,7 +9,7 @@ pub const TOP: u16 = 300;
 
 // The largest whole km/h up to 300 at which the boundary with this lead is not reached, by halving:
 // it is not reached at `low`, and is reached from `high` on. The inner loop brings `high` down for as
-// long as the middle is reached; kept apart, the two ways are a branch that the processor foretells.
+// long as the middle is reached; kept apart, the two ways are a branch that the processor predicts.
 pub fn permitted_of(curve: Curve, level: u16, lead: u16) -> u16
     ensures { result ≡ permitted_of curve level lead }
 {

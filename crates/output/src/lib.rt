@@ -11,14 +11,15 @@ ghost use Rattle.portions.specs.Reads.{text_by};
 ghost use Rattle.line.specs.Lines.{line_width};
 ghost use Rattle.output.specs.Streams.{lines, handed_on, given_in};
 
-use portions::{Handed, INPUT, Tell, Told};
+pub use portions::Handed;
+use portions::{INPUT, Tell, Told};
 use rules::Stm;
 use wire::{REPORT_LENGTH, SHORTEST};
 
 // The bytes of output: lines for as many commands as the input can hold, for a rest after them, and one to find no more.
 pub const OUTPUT: usize = (INPUT / SHORTEST + 2) * line::WIDTH;
 
-// The unit and its lines.
+// The writer of the stream program: a line for each answer.
 pub struct Lines;
 
 impl Tell for Lines {

@@ -67,7 +67,7 @@ const INTERVALS: [[u8; 2]; 9] = [
     *b"  ", *b"A ", *b"Ab", *b"Bf", *b"B ", *b"C ", *b"D ", *b"E ", *b"F ",
 ];
 
-// The letters of a number, blank where it has none.
+// The letters of a number, blank where it has none: a report's byte may be any number, so it is no enum.
 fn letters_in(names: &[[u8; 2]], n: u8) -> [u8; 2]
     ensures { result ≡ get_or names.now n (space ∷ space ∷ []) }
 {

@@ -24,7 +24,7 @@ fn moved_here(curve: Curve, moved: u16) -> Curve
     }
 }
 
-// Every curve after so many cm moved. A loop in place is quicker than an array's `map`, which moves the elements out first.
+// Every curve after so many cm moved. Here and below a loop is quicker than an array's `map`, which moves the elements out first.
 pub fn move_all(curves: [Curve; PLACES], moved: u16) -> [Curve; PLACES]
     ensures { result ≡ moved_all moved curves }
 {

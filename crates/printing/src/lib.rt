@@ -12,7 +12,8 @@ ghost use Rattle.sheet.specs.Paging.{added_width};
 ghost use Rattle.printing.specs.Sheets.{fresh_trip, printer, handed_on, given_in};
 
 use paging::ADDED;
-use portions::{Handed, INPUT, Tell, Told};
+pub use portions::Handed;
+use portions::{INPUT, Tell, Told};
 use rules::Stm;
 use sheet::Sheet;
 use wire::{REPORT_LENGTH, SHORTEST};
@@ -37,7 +38,7 @@ pub fn fresh() -> Trip
     }
 }
 
-// A unit with the sheet of its trip, that is printed.
+// The writer of the trip sheet: for each accepted command what it adds.
 pub struct Printer;
 
 impl Tell for Printer {

@@ -1,5 +1,6 @@
 // ET records (02, F-7; 001, 4.6.8): what becomes of one indefinite ET record, for the code to be proved against. Its types
-// stand here, its rules in specs/, and what is promised of a record in specs/ too, proved in proofs/. Nothing here runs.
+// stand here, its rules in specs/, and what is promised of a record in specs/ too, proved in proofs/. Only the derived
+// comparisons run.
 #![tactic(auto)]
 
 // How many records a unit holds.

@@ -13,7 +13,7 @@ ghost use Rattle.rules.specs.Numbers.{code_of, is_code};
 ghost use Rattle.rules.specs.Places.{holds_curve, all_curves_held, holds_section, stands_section, all_sections_held, holds_record, all_records_held, keeps_record};
 ghost use Rattle.rules.specs.Operands.{code_byte, number_of, event_in};
 ghost use Rattle.rules.specs.Commands.{padded};
-ghost use Rattle.rules.specs.Refusals.{is_path, is_allowed, orders_da, rule, first_of, rules_for, answer_for, answer_of};
+ghost use Rattle.rules.specs.Refusals.{is_path, is_allowed, orders_da, rule, first_of, rules_for, answer_of};
 
 use areas::is_taken;
 use boards::{all_records_held, holds_record, keeps_record};
@@ -23,7 +23,7 @@ use encoding::numbers::{code_of, state_of};
 use rules::{Answer, Code, State, Stm, Track};
 use track::curves::{all_curves_held, holds_curve};
 use track::sections::{all_sections_held, holds_section, stands_section};
-use wire::{FormError, LONGEST, be32, byte_at};
+use wire::{LONGEST, be32, byte_at};
 
 // The bytes of a command, with 0 after its end.
 pub fn padded(command: &[u8]) -> [u8; LONGEST]
@@ -182,23 +182,12 @@ fn judge(stm: Stm, command: &[u8], s: &[u8]) -> Answer
     ])
 }
 
-// Refusals 1 to 4, by the form; a whole command has its own answer.
-fn by_form(form: Result<(), FormError>, whole: Answer) -> Answer
-    ensures { result ≡ answer_for form whole }
-{
-    match form {
-        Err(FormError::WrongArea) => Answer::WrongArea,
-        Err(FormError::NoBytes) => Answer::NoBytes,
-        Err(FormError::NoCode) => Answer::NoCode,
-        Err(FormError::WrongLength) => Answer::WrongLength,
-        Ok(()) => whole,
-    }
-}
-
-// The answer to every command, with an area of so many bytes.
+// The answer to every command, with an area of so many bytes: refusals 1 to 4 by its form, else a whole command's own.
 pub fn answer_of(stm: Stm, command: &[u8], area: usize) -> Answer
     ensures { result ≡ answer_of stm command.now area }
 {
-    let whole = judge(stm, command, wire::operands(command, area));
-    by_form(wire::form_of(command, area), whole)
+    match wire::form_of(command, area) {
+        Ok(()) => judge(stm, command, wire::operands(command, area)),
+        Err(error) => Answer::from(error),
+    }
 }

@@ -1,7 +1,8 @@
 -- 01's numbers: codes, answers, states, orders and the bits of the causes, each by cases.
-use Rattle.std.specs.Prelude.{ℕ, Bool, cond, not, ◌||◌, eqb}
+use Rattle.std.specs.Prelude.{ℕ, Bool, cond, not, ◌||◌, eqb, Option, Some, None}
 use Rattle.rules.specs.declared.Answer.{Answer}
 use Rattle.rules.specs.declared.Code.{Code}
+use Rattle.rules.specs.declared.Incident.{Incident}
 use Rattle.rules.specs.declared.State.{State}
 use Rattle.rules.specs.declared.Cause.{Cause}
 use Rattle.rules.specs.declared.Order.{Order}
@@ -80,6 +81,19 @@ code_of byte =
 -- a command is this one
 abbrev pub is_code : Code → Code → Bool
 is_code wanted code = eqb (code_number code) (code_number wanted)
+
+-- "command 30, 0", "30, 1", "30, 2": the stop of the first operand; refusal 9 has gone before another
+unfoldable pub stop_of : ℕ → Option Incident
+stop_of byte =
+    cond (eqb byte 0) (Some Incident.AimedStop)
+    (cond (eqb byte 1) (Some Incident.UnexpectedStop)
+    (cond (eqb byte 2) (Some Incident.Landslide) None))
+
+-- what a command tells, with its first operand
+unfoldable pub incident_of : Code → ℕ → Option Incident
+incident_of code which =
+    cond (is_code Code.StopPassed code) (stop_of which)
+    (cond (is_code Code.BaliseError code) (Some Incident.BaliseError) None)
 
 -- "0 DE, 1 CS, 2 HS, 3 DA, 4 FA"
 abbrev pub state_number : State → ℕ

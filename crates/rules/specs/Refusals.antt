@@ -138,12 +138,16 @@ rules_for stm command code s =
 abbrev pub whole_answer : Stm → List ℕ → Answer
 whole_answer stm command = first_of (rules_for stm command (code_of (code_byte command)) (operands_of command))
 
--- refusals 1 to 4 come first, by the table of codes and lengths; a command that passes them has its own answer
+-- refusals 1 to 4, by the table of codes and lengths
+abbrev pub form_answer : FormError → Answer
+form_answer FormError.WrongArea = Answer.WrongArea
+form_answer FormError.NoBytes = Answer.NoBytes
+form_answer FormError.NoCode = Answer.NoCode
+form_answer FormError.WrongLength = Answer.WrongLength
+
+-- they come first; a command that passes them has its own answer
 abbrev pub answer_for : Result ⊤ FormError → Answer → Answer
-answer_for (Err FormError.WrongArea) whole = Answer.WrongArea
-answer_for (Err FormError.NoBytes) whole = Answer.NoBytes
-answer_for (Err FormError.NoCode) whole = Answer.NoCode
-answer_for (Err FormError.WrongLength) whole = Answer.WrongLength
+answer_for (Err error) whole = form_answer error
 answer_for (Ok passed) whole = whole
 
 -- the answer to every command, with an area of so many bytes

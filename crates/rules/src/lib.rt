@@ -1,6 +1,6 @@
 // The rules of the unit (01), for the code to be proved against: its types stand here, with 01's numbers
 // of their cases, its rules in specs/, and the members' points over them in specs/ too, proved in proofs/.
-// Of what stands here only the numbers and the derived comparisons run.
+// Of what stands here only the conversions and the derived comparisons run.
 //
 // Speeds v are in cm/s, limits in whole km/h, ground in cm, times in tenths of a second,
 // decelerations in mm/s², pressures in kPa.
@@ -8,10 +8,12 @@
 
 ghost use Rattle.std.specs.Prelude.{◌≡◌};
 ghost use Rattle.rules.specs.Numbers.{answer_number, code_number, state_number, order_number};
+ghost use Rattle.rules.specs.Refusals.{form_answer};
 
 // ---- answers and codes
 
 // The answers (01, "Answers"; 02, F-3, F-6 and F-7): accepted, again, and the refusals 1 to 18 in their order.
+// One enum, as 01 has one list of their numbers.
 #[derive(Clone, Copy, PartialEq, Eq)]
 pub enum Answer {
     Accepted = 0,
@@ -44,6 +46,20 @@ impl From<Answer> for u8 {
     }
 }
 
+// Refusals 1 to 4.
+impl From<wire::FormError> for Answer {
+    ghost from_gives = { λ error answer. answer ≡ form_answer error };
+
+    fn from(error: wire::FormError) -> Answer {
+        match error {
+            wire::FormError::WrongArea => Answer::WrongArea,
+            wire::FormError::NoBytes => Answer::NoBytes,
+            wire::FormError::NoCode => Answer::NoCode,
+            wire::FormError::WrongLength => Answer::WrongLength,
+        }
+    }
+}
+
 // The commands (01, "Commands"; 02, F-3, F-6 and F-7), in the order of their codes.
 #[derive(Clone, Copy, PartialEq, Eq)]
 pub enum Code {
@@ -70,6 +86,15 @@ impl From<Code> for u8 {
     fn from(code: Code) -> u8 {
         code as u8
     }
+}
+
+// What a command tells that orders causes: a stop passed, by the three kinds of 30, or the balise error of 32.
+#[derive(Clone, Copy, PartialEq, Eq)]
+pub enum Incident {
+    AimedStop,
+    UnexpectedStop,
+    Landslide,
+    BaliseError,
 }
 
 // ---- the state
@@ -117,14 +142,13 @@ pub struct Train {
     pub check: u8,
 }
 
-// A section, or a place that holds none. `ground` is the ground moved since its end was told.
+// A section, or a place that holds none. `ending` is the ground moved since its end was told (None: it isn't told).
 #[derive(Clone, Copy)]
 pub struct Section {
     pub held: bool,
     pub id: u8,
     pub speed: u16,
-    pub ending: bool,
-    pub covered: u32,
+    pub ending: Option<u32>,
 }
 
 // What the track has told: curves, sections, the 40 of an unexpected stop, the stay in an area (02, F-6),
@@ -173,7 +197,7 @@ pub struct Causes {
 }
 
 // How bit 9 is held (02, F-2): no balise error has decided it, or the last one did, at a speed above
-// 80 km/h, or at or below it; then with the number of further reports in DA, kept up to 20.
+// 80 km/h, or at or below it; then with the number of further reports in DA, kept up to 20. Three cases, so no Option.
 #[derive(Clone, Copy)]
 pub enum Hold {
     Undecided,
@@ -191,7 +215,7 @@ pub struct Since {
     pub balise: Hold,
 }
 
-// A brake check: no order to check, the count since the order began, or satisfied or judged.
+// A brake check: no order to check, the count since the order began, or satisfied or judged. Three cases, so no Option.
 #[derive(Clone, Copy)]
 pub enum Check {
     Idle,
@@ -214,7 +238,7 @@ pub struct Brakes {
 }
 
 // The stage of brake test A (02, F-3): none runs; P_INT settles, by a phase of the feedback's rule that
-// is the test's own; or it brakes, with the steady pressure and the number of reports since it settled.
+// is the test's own; or it brakes, with the steady pressure and the number of reports since it settled. Three cases, so no Option.
 #[derive(Clone, Copy)]
 pub enum Stage {
     Idle,
@@ -222,7 +246,7 @@ pub enum Stage {
     Braking { steady: f32, reports: u8 },
 }
 
-// How the last test since the start has ended: none has, it passed, it failed.
+// How the last test since the start has ended: none has, it passed, it failed. Three cases, so no Option of a Result.
 #[derive(Clone, Copy, PartialEq, Eq)]
 pub enum Verdict {
     Pending,

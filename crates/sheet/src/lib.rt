@@ -1,5 +1,5 @@
 // The trip sheet (02, F-5), for the code to be proved against: its types stand here, its rules in specs/, and what is promised of every
-// sheet in specs/ too, proved in proofs/. Nothing here runs.
+// sheet in specs/ too, proved in proofs/. Only the derived comparison runs.
 #![tactic(auto)]
 
 // What a line says of the three by which the next is compared with it.

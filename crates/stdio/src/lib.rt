@@ -1,7 +1,7 @@
-// Reads raw command bytes from a stream, hands them on, and writes the lines to another, as 01 says.
+// Reads raw command bytes from a stream, hands them on, and writes what comes of them to another, as 01 says, and 02 of the trip sheet.
 //
-// What is handed on, and which bytes are written for it, is proved in `output`. Here nothing is decided: a turn is a read, that
-// function, a write.
+// What is handed on, and which bytes are written for it, is proved in `portions`, `output` and `printing`. Here nothing is decided: a turn
+// is a read, `portions::turn`, a write.
 #![tactic(auto)]
 
 ghost use Rattle.std.specs.Prelude.{◌≡◌, ◌+◌, ◌-◌, ◌*◌, ◌/◌, ◌^◌, ◌<◌, ◌≤◌, length, take, IfOk, IfSome, OnOk, OnErr};
@@ -102,7 +102,7 @@ pub fn run_from<T: Tell, const ROOM: usize, R: Read, W: Write>(
     Ok(())
 }
 
-// Runs the unit and its lines.
+// The stream program: runs the unit until the stream ends, or a read or a write fails. Memory is fixed, whatever the input.
 pub fn run<R: Read, W: Write>(stdin: &mut R, stdout: &mut W) -> io::Result<()>
     // Where all went well, the output of the whole input is written, however it came in reads: of an input of up to
     // 2^64 - 2 bytes, which no run reads.

@@ -2,8 +2,10 @@
 ghost use Rattle.std.specs.Prelude.{◌≡◌};
 ghost use Rattle.rules.specs.Numbers.{code_of};
 ghost use Rattle.rules.specs.Operands.{code_byte};
+ghost use Rattle.rules.specs.Releases.{brakes_by};
+ghost use Rattle.rules.specs.declared.Code.{Code};
 ghost use Rattle.rules.specs.BrakeTest.{left_test};
-ghost use Rattle.rules.specs.Odometer.{with_test};
+ghost use Rattle.rules.specs.Odometer.{with_brakes, with_test};
 ghost use Rattle.rules.specs.Commands.{entered, stopped, carried_out, remembered};
 
 use crate::odometer::take_reading;
@@ -16,8 +18,8 @@ use encoding::fields::{
     curve_of, event_in, event_speed, reading_of, record_of, route_in, section_of, signal_in,
     train_of,
 };
-use encoding::numbers::{code_of, state_of};
-use rules::{Code, Control, State, Stm, Track};
+use encoding::numbers::{code_of, state_of, stop_of};
+use rules::{Code, Control, Incident, State, Stm, Track};
 use track::curves::{end_curve, give_curve};
 use track::sections::{end_section, give_section};
 use track::whole::{cleared_track, passed_track};
@@ -57,12 +59,24 @@ fn change_state(state: State, stm: Stm) -> Stm
 fn stop(which: u8, stm: Stm) -> Stm
     ensures { result ≡ stopped which stm }
 {
+    let incident = stop_of(which);
+    let unexpected = incident == Some(Incident::UnexpectedStop);
     Stm {
         track: Track {
-            forty: (which == 1) | stm.track.forty,
+            forty: unexpected | stm.track.forty,
             ..stm.track
         },
-        brakes: brakes_by(Code::StopPassed, which, stm.kept.speed, stm.brakes),
+        brakes: brakes_by(incident, stm.kept.speed, stm.brakes),
+        ..stm
+    }
+}
+
+// Command 32.
+fn balise_error(stm: Stm) -> Stm
+    ensures { result ≡ with_brakes stm (brakes_by Code.BaliseError 0 stm.kept.speed stm.brakes) }
+{
+    Stm {
+        brakes: brakes_by(Some(Incident::BaliseError), stm.kept.speed, stm.brakes),
         ..stm
     }
 }
@@ -83,9 +97,7 @@ pub fn accept(command: &[u8], s: &[u8], stm: Stm) -> Stm
         Code::EndSection => next.track.sections = end_section(byte_at(s, 0), stm.track.sections),
         Code::StopPassed => next = stop(byte_at(s, 0), stm),
         Code::Proceed => next.track.forty = false,
-        Code::BaliseError => {
-            next.brakes = brakes_by(Code::BaliseError, 0, stm.kept.speed, stm.brakes);
-        }
+        Code::BaliseError => next = balise_error(stm),
         Code::TestBrakes => next.test = begun_test(stm.test),
         Code::AreaEvent => next.track = passed_track(event_in(s), event_speed(s), stm.track),
         Code::NewRecord => next.track.records = give_record(record_of(s), stm.track.records),

@@ -124,7 +124,7 @@ fn shown_fields(over: bool, insufficient: bool, shown: Candidate) -> Shown
     }
 }
 
-// In DA, where this is looked at.
+// The report in DA, from what it looks at.
 fn report_in_da(view: &View, stm: &Stm) -> [u8; REPORT_LENGTH]
     ensures { result ≡ report_with view.now.judged view.now.vmax (chosen_among stm.now.track.curves stm.now.track.records view.now.judged) view.now.seen stm.now }
 {
@@ -212,7 +212,7 @@ fn report_outside(stm: &Stm) -> [u8; REPORT_LENGTH]
     ]
 }
 
-// What the unit's report looks at, judged here.
+// What the report of a state looks at.
 fn view_of(stm: &Stm) -> View
     ensures { (result.judged ≡ judged_now stm.now.train stm.now.kept (all_curves stm.now.track)) × (result.vmax ≡ vmax_of stm.now.train stm.now.track) × (result.seen ≡ seen_in stm.now) }
 {
@@ -230,7 +230,7 @@ fn view_of(stm: &Stm) -> View
     View { judged, vmax, seen }
 }
 
-// The report of a state of which it is known already what its report looks at.
+// The report of a state, given what it looks at.
 pub(crate) fn report_with(view: &View, stm: Stm) -> [u8; REPORT_LENGTH]
     requires { (view.now.judged ≡ judged_now stm.train stm.kept (all_curves stm.track)) × (view.now.vmax ≡ vmax_of stm.train stm.track) × (view.now.seen ≡ seen_in stm) }
     ensures { result ≡ report_of stm }

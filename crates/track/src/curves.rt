@@ -1,4 +1,4 @@
-// The places of curves: a new one, an ended one, which ids are held.
+// The places of curves: a new one, an ended one, which ids are held. Each is `holding`'s at a curve, by the definition of its own.
 ghost use Rattle.std.specs.Prelude.{◌≡◌};
 ghost use Rattle.rules.specs.Places.{holds_curve, all_curves_held, given_curve, ended_curve};
 

@@ -1,8 +1,13 @@
-use Rattle.refusals.proofs.Whole.{answer_by_form}
+use mathlib.Core.Path.{sym, ◌∙◌}
+use Rattle.refusals.proofs.Whole.{by_whole, by_error}
 use Rattle.refusals.proofs.answer_of.Goals as goal
 
-pub returns : goal.returns
-returns c =
+pub returns-in-Ok : goal.returns-in-Ok
+returns-in-Ok c =
     let a = c.args in
-    rw (c.by_form.ensures, c.form_of.ensures.outcome, c.judge-whole.ensures, c.operands.ensures)
-    (answer_by_form a.stm a.command.now a.area)
+    rw (c.judge.ensures, c.operands.ensures) (by_whole a.stm a.command.now a.area (sym c.form_of.ensures.outcome ∙ c.in-Ok.is))
+
+pub returns-in-Err : goal.returns-in-Err
+returns-in-Err c =
+    let a = c.args in
+    c.from.ensures ∙ by_error a.stm a.command.now a.area (sym c.form_of.ensures.outcome ∙ c.in-Err.is)
