@@ -74,11 +74,15 @@ pub fn pass_signal(signal: Signal, route: Route, ets: [EtRecord; RECORDS]) -> [E
     ets.map(|et| passed_record(signal, route, et))
 }
 
-// The records after so many cm moved.
+// The records after so many cm moved: at every report, so by the loop that is quicker than `map`.
 pub fn move_records(moved: u16, ets: [EtRecord; RECORDS]) -> [EtRecord; RECORDS]
     ensures { result ≡ map (moved_record moved) ets }
 {
-    ets.map(|et| moved_record(moved, et))
+    let mut next = ets;
+    for et in &mut next {
+        *et = moved_record(moved, *et);
+    }
+    next
 }
 
 // The records with their past in B noted; what they say as curves stands behind what the curves say. It goes by the index: of

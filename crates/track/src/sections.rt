@@ -83,9 +83,13 @@ fn moved_section(length: u16, moved: u16, section: Section) -> Section
     }
 }
 
-// Every section after so many cm moved.
+// Every section after so many cm moved: at every report, so by the loop that is quicker than `map`.
 pub fn move_sections(length: u16, moved: u16, sections: [Section; PLACES]) -> [Section; PLACES]
     ensures { result ≡ map (moved_section length moved) sections }
 {
-    sections.map(|section| moved_section(length, moved, section))
+    let mut next = sections;
+    for section in &mut next {
+        *section = moved_section(length, moved, *section);
+    }
+    next
 }
