@@ -20,16 +20,13 @@ use Rattle.curve.proofs.Stricter.{line_stricter}
 
 -- ---- the most before a change
 
-pub largest_same : (test other : ℕ → Bool) → ((k : ℕ) → test k ≡ other k) → (n : ℕ) → largest_failing test n ≡ largest_failing other n
-unfolding largest_failing
-largest_same test other h zero = refl
-largest_same test other h (suc n) = ap₂ (λ t k. cond t k (suc n)) (h (suc n)) (largest_same test other h n)
-
-pub most_same : (test other : ℕ → Bool) → ((k : ℕ) → test k ≡ other k) → (n : ℕ) → most_before test n ≡ most_before other n
-unfolding most_before
-most_same test other h n = ap₂ (λ t k. cond t k never) (h n) (largest_same test other h n)
-
 module _ (test : ℕ → Bool) (monotone : Monotone test) (n : ℕ) where
+  pub most_none : test 0 ≡ true → most_before test n ≡ 0
+  unfolding most_before
+  most_none z =
+      ap (λ t. cond t (largest_failing test n) never) (monotone 0 n zero-le z)
+      ∙ le_antisymm (passing_above test n 0 (λ k h g. monotone 0 k zero-le z)) zero-le
+
   pub most_told : ((m : ℕ) → n ≤ m → test m ≡ test n) → test 0 ≡ false → StaysFor (λ m. test m ≡ false) n (most_before test n)
   unfolding most_before
   most_told beyond z = by (test n) refl
@@ -51,11 +48,14 @@ module _ (test : ℕ → Bool) (monotone : Monotone test) (n : ℕ) where
             ];
           })
 
-  pub most_none : test 0 ≡ true → most_before test n ≡ 0
-  unfolding most_before
-  most_none z =
-      ap (λ t. cond t (largest_failing test n) never) (monotone 0 n zero-le z)
-      ∙ le_antisymm (passing_above test n 0 (λ k h g. monotone 0 k zero-le z)) zero-le
+pub largest_same : (test other : ℕ → Bool) → ((k : ℕ) → test k ≡ other k) → (n : ℕ) → largest_failing test n ≡ largest_failing other n
+unfolding largest_failing
+largest_same test other h zero = refl
+largest_same test other h (suc n) = ap₂ (λ t k. cond t k (suc n)) (h (suc n)) (largest_same test other h n)
+
+pub most_same : (test other : ℕ → Bool) → ((k : ℕ) → test k ≡ other k) → (n : ℕ) → most_before test n ≡ most_before other n
+unfolding most_before
+most_same test other h n = ap₂ (λ t k. cond t k never) (h n) (largest_same test other h n)
 
 -- ---- a curve with ground covered
 

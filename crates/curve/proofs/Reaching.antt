@@ -51,6 +51,7 @@ left_to_f_is_told curve level margin v =
 pub ground_left_is_told : GroundLeftIsTold
 ground_left_is_told curve level v T =
     rw (left_is_told curve level v T) (
+      refl,
       left_none (λ c. is_reached c level v T) curve (reached_on curve level v T),
       left_told (λ c. is_reached c level v T) curve (reached_on curve level v T),
     )
@@ -58,6 +59,7 @@ ground_left_is_told curve level v T =
 pub ground_left_to_f_is_told : GroundLeftToFIsTold
 ground_left_to_f_is_told curve level margin v =
     rw (left_to_f_is_told curve level margin v) (
+      refl,
       left_none (λ c. is_reached_f c level margin v) curve (f_reached_on curve level v margin),
       left_told (λ c. is_reached_f c level margin v) curve (f_reached_on curve level v margin),
     )

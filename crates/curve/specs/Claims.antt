@@ -2,7 +2,7 @@
 use Rattle.std.specs.Prelude.{◌≡◌, ℕ, suc, ◌+◌, ◌*◌, ◌≤◌, ◌<◌, true, false, ◌⊎◌, is_none}
 use Rattle.curve.specs.Deceleration.{deceleration_of}
 use Rattle.curve.specs.Boundary.{is_reached, is_reached_f, is_reached_at_kmh}
-use Rattle.curve.specs.Ground.{moved_by, never, reach_of, reach_of_f, left_of}
+use Rattle.curve.specs.Ground.{moved_by, never, most_before, reach_of, reach_of_f, left_of}
 use Rattle.curve.specs.Lead.{leads_of}
 use Rattle.curve.specs.declared.Times.{Times}
 use Rattle.curve.specs.declared.Curve.{Curve}
@@ -101,24 +101,26 @@ pub record NeverChanges (Same : ℕ → Type 0) (n : ℕ) : Type 0 where
 abbrev pub StaysFor : (ℕ → Type 0) → ℕ → ℕ → Type 0
 StaysFor Same distance n = ChangesAfter Same distance n ⊎ NeverChanges Same n
 
--- "The boundary rule shall tell, besides reached or not,": what it told before is the first part
+-- "The boundary rule shall tell, besides reached or not,": what it told before is told by `None`
 abbrev pub ReachedAsBefore : Type 0
 ReachedAsBefore =
     (curve : Curve) (level margin v T : ℕ)
     → (is_none (reach_of curve level v T) ≡ is_reached curve level v T)
     × (is_none (reach_of_f curve level margin v) ≡ is_reached_f curve level margin v)
 
--- the other part: for how far a boundary is not reached; 0 where it is
+-- what it tells besides, "the most whole centimetres": 0 where the boundary is reached, and else for how far it is not
 abbrev pub GroundLeftIsTold : Type 0
 GroundLeftIsTold =
     (curve : Curve) (level v T : ℕ)
-    → (is_reached curve level v T ≡ true → left_of (reach_of curve level v T) ≡ 0)
+    → (left_of (reach_of curve level v T) ≡ most_before (λ m. is_reached (moved_by curve m) level v T) curve.distance)
+    × (is_reached curve level v T ≡ true → left_of (reach_of curve level v T) ≡ 0)
     × (is_reached curve level v T ≡ false
     → StaysFor (λ m. is_reached (moved_by curve m) level v T ≡ false) curve.distance (left_of (reach_of curve level v T)))
 
 abbrev pub GroundLeftToFIsTold : Type 0
 GroundLeftToFIsTold =
     (curve : Curve) (level margin v : ℕ)
-    → (is_reached_f curve level margin v ≡ true → left_of (reach_of_f curve level margin v) ≡ 0)
+    → (left_of (reach_of_f curve level margin v) ≡ most_before (λ m. is_reached_f (moved_by curve m) level margin v) curve.distance)
+    × (is_reached_f curve level margin v ≡ true → left_of (reach_of_f curve level margin v) ≡ 0)
     × (is_reached_f curve level margin v ≡ false
     → StaysFor (λ m. is_reached_f (moved_by curve m) level margin v ≡ false) curve.distance (left_of (reach_of_f curve level margin v)))
