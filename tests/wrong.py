@@ -6,7 +6,8 @@ docs/DECISIONS.md lists them.
     python3 tests/wrong.py [--most N] [--seed S] [FILE..]
 
 FILE is a name in crates/rules/specs, as Table, or a crate and a name, as colours/Rows, areas/Rows, records/Lives or sheet/Columns; with none, every file of rules is tried. A change
-is a figure one more or one less, a test, a truth value, a constructor or a field for another of its type, or a `not` left out. A change
+is a figure one more or one less, a test, a truth value, a constructor or a field for another of its type, a `not` left out, a `Some` for
+a `None` or a `None` for a `Some`, or the test of an `Option` field for a truth value of its struct. A change
 that no longer has a type is left out of the count. Each takes some seconds; at most N are tried, chosen by the seed S.
 """
 import argparse
@@ -21,13 +22,17 @@ RULES = ['Numbers', 'Operands', 'Places', 'Speeds', 'Hold', 'Table', 'Checks', '
          'colours/Numbers', 'colours/Rows', 'areas/Numbers', 'areas/Rows', 'areas/Stays', 'records/Numbers', 'records/Rows', 'records/Lives', 'Reports', 'Commands', 'Refusals', 'Calls']
 HELD = {'rules': 'cases'}  # the crate above, whose check proves this one too
 SWAPS = {'ltb': ['leb'], 'leb': ['ltb'], 'lt': ['le'], 'le': ['lt'], '&&': ['||'], '||': ['&&'], 'true': ['false'], 'false': ['true'],
-         'min': ['Prim.Native.Nat.max'], 'not': [''], 'None': ['(Some 0)', '(Some true)']}
-TOKEN = re.compile(r'0x[0-9A-F]+\b|\b\d+\b|\b(?:ltb|leb|lt|le|true|false|min|not)\b|&&|\|\||\b(?:[A-Z]\w*\.)?[A-Z]\w*\b|(?<=[\w)])\.[a-z]\w*\b')
+         'min': ['Prim.Native.Nat.max'], 'not': [''], 'None': ['(Some 0)', '(Some true)', '(Some false)'],
+         'is_none': ['Rattle.std.specs.Prelude.is_some'], 'is_some': ['Rattle.std.specs.Prelude.is_none']}
+TOKEN = re.compile(r'0x[0-9A-F]+\b|\b\d+\b|\b(?:ltb|leb|lt|le|true|false|min|not|is_none|is_some)\b|&&|\|\||\b(?:[A-Z]\w*\.)?[A-Z]\w*\b|(?<=[\w)])\.[a-z]\w*\b')
+SOME = re.compile(r'Some (?:[\w.]+|\((?:[^()]|\((?:[^()]|\([^()]*\))*\))*\))')  # with what it holds
+OWNER = re.compile(r'[\w.]+$')  # what a field is of
+TESTED = re.compile(r'is_(none|some) ([\w.]+)\.(\w+)')
 
 
 def fields_and_variants():
-    """field -> the fields of its struct that have its type; enum -> its variants."""
-    fields, variants = {}, {}
+    """field -> the fields of its struct that have its type; enum -> its variants; truth value -> the `Option` fields of its struct."""
+    fields, variants, options = {}, {}, {}
     for crate in ('rules', 'colours', 'areas', 'records', 'sheet', 'curve', 'pressure'):
         with open(f'crates/{crate}/src/lib.rt') as f:
             text = re.sub(r'//.*', '', f.read())
@@ -35,12 +40,34 @@ def fields_and_variants():
             of = re.findall(r'pub (\w+): ([^\n]*),', body)
             for name, kind in of:
                 fields.setdefault(name, set()).update(other for other, same in of if same == kind and other != name)
+                if kind == 'bool':
+                    options.setdefault(name, set()).update(other for other, same in of if same.startswith('Option<'))
         for name, body in re.findall(r'pub enum (\w+) \{(.*?)\n\}', text, re.S):
             variants[name] = re.findall(r'\b([A-Z]\w*)\b(?:\([^)]*\)| = \w+)?,', body)
-    return fields, variants
+    return fields, variants, options
 
 
-def wrong(text, fields, variants):
+def with_options(line, token, options):
+    """(start, end, text) for each change that turns on an `Option`: what a `Some` holds left out, and the test of an `Option` field
+    for a truth value of its struct, or the other way round."""
+    old = token.group()
+    if old == 'Some':
+        held = SOME.match(line, token.start())
+        if held:
+            yield held.start(), held.end(), 'None'
+    elif old.startswith('.'):
+        owner = OWNER.search(line[:token.start()])
+        for name in sorted(options.get(old[1:], ())) if owner else ():
+            yield owner.start(), token.end(), f'(Rattle.std.specs.Prelude.is_some {owner.group()}.{name})'
+    elif old in ('is_none', 'is_some'):
+        tested = TESTED.match(line, token.start())
+        for name, others in sorted(options.items()) if tested else ():
+            if tested.group(3) in others:
+                value = f'{tested.group(2)}.{name}'
+                yield tested.start(), tested.end(), f'not {value}' if tested.group(1) == 'none' else value
+
+
+def wrong(text, fields, variants, options):
     """(line number, line, changed line) for each change of a definition's body."""
     inside = False
     imported = [names.split(', ') for names in re.findall(r'TheVariants\.\{(.*)\}', text)]
@@ -69,8 +96,9 @@ def wrong(text, fields, variants):
                 others = [f'{enum}.{name}' for name in variants.get(enum, ()) if name != variant]
             else:
                 others = [name for names in imported if old in names for name in names if name != old]
-            for new in others:
-                yield at, line, line[:token.start()] + new + line[token.end():]
+            changes = [(token.start(), token.end(), new) for new in others] + list(with_options(line, token, options))
+            for start, end, new in changes:
+                yield at, line, line[:start] + new + line[end:]
 
 
 def main():
