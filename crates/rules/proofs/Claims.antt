@@ -1,5 +1,5 @@
 -- What holds of the parts of the rules: codes, places, speeds, the shown curve and the checks. Assumes nothing.
-use mathlib.Core.Path.{◌≡◌, refl, sym, ◌∙◌, ap}
+use mathlib.Core.Path.{◌≡◌, refl, sym, ◌∙◌, ap, ap₂, subst}
 use Prim.Native.Nat.{ℕ, zero, suc, ◌+◌, ◌*◌, ◌≤◌, ◌<◌, min}
 use mathlib.Core.Bool.{Bool, true, false, cond, not, ◌&&◌, ◌||◌, false≢true, or-false, and-false}
 use mathlib.Core.Logic.{◌⊎◌, inl, inr}
@@ -27,7 +27,7 @@ use Rattle.areas.specs.Numbers.{is_area}
 use Rattle.areas.specs.Stays.{line_speed, area_speed}
 use Rattle.areas.proofs.Told.{partial_is}
 use Rattle.curve.specs.declared.Judged.{Judged}
-use Rattle.rules.specs.Numbers.{answer_number, code_of}
+use Rattle.rules.specs.Numbers.{answer_number, code_number, code_of, stop_of, incident_of}
 use Rattle.rules.specs.Operands.{code_byte}
 use Rattle.rules.specs.Places.{any_of, all_of, free_section, ending_section, moved_section, all_curves_held, all_sections_held, holds_curve, holds_section}
 use Rattle.rules.specs.Speeds.{section_speed, stop_speed, vmax_of, permitted_speed}
@@ -35,9 +35,10 @@ use Rattle.rules.specs.Shows.{no_candidate, set_number, is_lower, goes_before, c
 use Rattle.rules.specs.Refusals.{Rule, first_of, rules_for, finds_no_place, whole_answer, answer_for, answer_of}
 use Rattle.rules.specs.Calls.{call_of}
 use Rattle.rules.specs.Runs.{Sent, answer_to}
-use Rattle.rules.specs.Claims.{UpToLine, counted_times, CodesAreTheTable, FirstFourAreWire, AllHeldMeansAll, SectionEndsAtRear, VmaxIsLeast, PermittedIsLeast, ShownIsFirst, CheckFailsAtLimit}
+use Rattle.rules.specs.Claims.{TellsIncident, UpToLine, counted_times, CodesAreTheTable, IncidentsAreTold, FirstFourAreWire, AllHeldMeansAll, SectionEndsAtRear, VmaxIsLeast, PermittedIsLeast, ShownIsFirst, CheckFailsAtLimit}
 use Rattle.rules.specs.declared.Answer.{Answer}
 use Rattle.rules.specs.declared.Code.{Code}
+use Rattle.rules.specs.declared.Incident.{Incident}
 use Rattle.rules.specs.declared.Check.{Check}
 use Rattle.rules.specs.declared.Candidate.{Candidate}
 use Rattle.rules.specs.declared.Section.{Section}
@@ -50,6 +51,46 @@ use Rattle.rules.proofs.Told.{code_told, code_is}
 pub codes_are_the_table : CodesAreTheTable
 unfolding commands
 codes_are_the_table = (refl, code_told)
+
+-- the code of a number
+code_by : (code : Code) {number : ℕ} → code_number code ≡ number → code ≡ code_of number
+code_by code e = sym (code_told code) ∙ ap code_of e
+
+incident_by : (code : Code) (which : ℕ) (incident : Incident) → TellsIncident incident (code_number code) which → incident_of code which ≡ Some incident
+unfolding code_of stop_of incident_of
+incident_by code which Incident.AimedStop t = ap₂ incident_of (code_by code t.0) t.1
+incident_by code which Incident.UnexpectedStop t = ap₂ incident_of (code_by code t.0) t.1
+incident_by code which Incident.Landslide t = ap₂ incident_of (code_by code t.0) t.1
+incident_by code which Incident.BaliseError t = ap (λ told. incident_of told which) (code_by code t)
+
+-- an incident, if it is one, is told
+abbrev IfTold : Option Incident → ℕ → ℕ → Type 0
+IfTold (Some incident) code which = TellsIncident incident code which
+IfTold None code which = ⊤
+
+no_stop : (which : ℕ) → 3 ≤ which → stop_of which ≡ None
+unfolding stop_of
+no_stop which l = rw (ne_eqb which 0 (λ e. omega arith), ne_eqb which 1 (λ e. omega arith), ne_eqb which 2 (λ e. omega arith))
+
+stop_told : (which : ℕ) → IfTold (stop_of which) 0x30 which
+unfolding stop_of
+stop_told zero = (refl, refl)
+stop_told (suc zero) = (refl, refl)
+stop_told (suc (suc zero)) = (refl, refl)
+stop_told (suc (suc (suc n))) = subst (λ stop. IfTold stop 0x30 (suc (suc (suc n)))) (sym (no_stop (suc (suc (suc n))) (omega arith))) tt
+
+incident_told : (code which : ℕ) (stop error : Bool) → eqb code 0x30 ≡ stop → eqb code 0x32 ≡ error
+    → IfTold (cond stop (stop_of which) (cond error (Some Incident.BaliseError) None)) code which
+incident_told code which true error e f = subst (λ n. IfTold (stop_of which) n which) (sym (eqb-true code 0x30 e)) (stop_told which)
+incident_told code which false true e f = eqb-true code 0x32 f
+incident_told code which false false e f = tt
+
+pub incidents_are_told : IncidentsAreTold
+unfolding incident_of
+incidents_are_told code which incident = (
+  incident_by code which incident,
+  λ e. subst (λ told. IfTold told (code_number code) which) e (incident_told (code_number code) which _ _ refl refl),
+)
 
 pub first_four_are_wire : FirstFourAreWire
 unfolding refusal_of

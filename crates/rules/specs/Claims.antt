@@ -7,7 +7,7 @@ use Rattle.wire.specs.Form.{refusal_of}
 use Rattle.curve.specs.declared.Curve.{Curve}
 use Rattle.curve.specs.declared.Judged.{Judged}
 use Rattle.areas.specs.declared.Area.{Area}
-use Rattle.rules.specs.Numbers.{answer_number, code_number, code_of}
+use Rattle.rules.specs.Numbers.{answer_number, code_number, code_of, incident_of}
 use Rattle.rules.specs.Places.{free_section, ending_section, moved_section}
 use Rattle.rules.specs.Speeds.{vmax_of, permitted_speed}
 use Rattle.rules.specs.Checks.{begins, counted_on, fails_now}
@@ -16,6 +16,7 @@ use Rattle.rules.specs.Refusals.{answer_for}
 use Rattle.rules.specs.Runs.{Sent, answer_to, is_of}
 use Rattle.rules.specs.declared.Answer.{Answer}
 use Rattle.rules.specs.declared.Code.{Code}
+use Rattle.rules.specs.declared.Incident.{Incident}
 use Rattle.rules.specs.declared.Check.{Check}
 use Rattle.rules.specs.declared.Section.{Section}
 use Rattle.rules.specs.declared.Train.{Train}
@@ -49,6 +50,21 @@ abbrev pub CodesAreTheTable : Type 0
 CodesAreTheTable =
     (map (λ row. row.code) commands ≡ map code_number codes)
     × ((code : Code) → code_of (code_number code) ≡ code)
+
+-- the incidents of the table "Commands", by code and first operand: "0 aimed-at stop, 1 unexpected stop, 2 landslide board BSK" of 30, and the
+-- balise error of 32, which has no operand
+abbrev pub TellsIncident : Incident → ℕ → ℕ → Type 0
+TellsIncident Incident.AimedStop code which = (code ≡ 0x30) × (which ≡ 0)
+TellsIncident Incident.UnexpectedStop code which = (code ≡ 0x30) × (which ≡ 1)
+TellsIncident Incident.Landslide code which = (code ≡ 0x30) × (which ≡ 2)
+TellsIncident Incident.BaliseError code which = code ≡ 0x32
+
+-- a command tells an incident exactly where its code and its first operand are those of the incident; every other command tells none
+abbrev pub IncidentsAreTold : Type 0
+IncidentsAreTold =
+    (code : Code) (which : ℕ) (incident : Incident)
+    → (TellsIncident incident (code_number code) which → incident_of code which ≡ Some incident)
+    × (incident_of code which ≡ Some incident → TellsIncident incident (code_number code) which)
 
 -- refusals 1 to 4 have the numbers that the table of codes and lengths gives them
 abbrev pub FirstFourAreWire : Type 0
