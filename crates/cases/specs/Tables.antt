@@ -514,12 +514,9 @@ curve_fields curve =
     ∷ truth curve.past
     ∷ []
 
-abbrev pub ending_figures : Option ℕ → List ℕ
-ending_figures None = 0 ∷ 0 ∷ []
-ending_figures (Some covered) = 1 ∷ covered ∷ []
-
 abbrev pub section_figures : Section → List ℕ
-section_figures section = truth section.held ∷ section.id ∷ section.speed ∷ ending_figures section.ending
+section_figures section =
+    truth section.held ∷ section.id ∷ section.speed ∷ truth section.ending ∷ section.covered ∷ []
 
 abbrev pub is_same : ℤ → ℤ → Bool
 is_same x y = le_z x y && le_z y x

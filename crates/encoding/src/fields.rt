@@ -188,7 +188,8 @@ pub fn section_of(s: &[u8]) -> Section
         held: true,
         id: byte_at(s, 0),
         speed: be16(s, 1),
-        ending: None,
+        ending: false,
+        covered: 0,
     }
 }
 

@@ -66,7 +66,8 @@ impl Place for Section {
             held: false,
             id: 0,
             speed: 0,
-            ending: None,
+            ending: false,
+            covered: 0,
         }
     }
 
@@ -84,7 +85,8 @@ impl Place for Section {
 
     fn ended(self) -> Section {
         Section {
-            ending: Some(0),
+            ending: true,
+            covered: 0,
             ..self
         }
     }

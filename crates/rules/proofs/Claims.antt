@@ -43,7 +43,7 @@ use Rattle.rules.specs.declared.Check.{Check}
 use Rattle.rules.specs.declared.Candidate.{Candidate}
 use Rattle.rules.specs.declared.Section.{Section}
 use Rattle.rules.specs.declared.Stm.{Stm}
-use Rattle.rules.proofs.Tests.{both, second_fails, if_used, not_both, either, neither}
+use Rattle.rules.proofs.Tests.{and_both, both, second_fails, if_used, not_both, either, neither}
 use Rattle.rules.proofs.Told.{code_told, code_is}
 
 -- ---- codes
@@ -170,11 +170,11 @@ all_held_means_all stm x e =
 
 pub section_ends_at_rear : SectionEndsAtRear
 unfolding moved_section
-section_ends_at_rear length moved covered section h e =
-    let sum = covered + moved in
-    let by : Bool → Section = λ ends. cond ends free_section (ending_section section sum) in
-    let ending : moved_section length moved section ≡ by (leb (100 * length) sum) = rw (h, e) in
-    (λ l. ending ∙ ap by (lt-leb (100 * length) sum l), λ l. ending ∙ ap by (le-leb (100 * length) sum l))
+section_ends_at_rear length moved section h e =
+    let covered = section.covered + moved in
+    let by : Bool → Section = λ ends. cond ends free_section (ending_section section covered) in
+    let ending = ap (λ t. cond t (by (leb (100 * length) covered)) section) (and_both section.held section.ending h e) in
+    (λ l. ending ∙ ap by (lt-leb (100 * length) covered l), λ l. ending ∙ ap by (le-leb (100 * length) covered l))
 
 -- ---- speeds
 

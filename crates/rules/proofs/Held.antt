@@ -112,6 +112,7 @@ section_is_ended stm x place e c = (
         id = refl;
         speed = refl;
         ending = refl;
+        covered = refl;
       }),
   λ h. rw (section_after_end stm x place e c, h),
 )

@@ -4,17 +4,16 @@ use Prim.Native.Nat.{ℕ, ◌+◌, ◌*◌, ◌≤◌, ◌<◌}
 use native.Mathlib.Omega.{arith}
 use native.Mathlib.Nat.{add-zero}
 use native.Mathlib.Decide.{dec_lt}
-use mathlib.Core.Bool.{Bool, true, false, cond, not, ◌&&◌, ◌||◌}
+use mathlib.Core.Bool.{Bool, true, false, cond, not, ◌&&◌, ◌||◌, and-false}
 use mathlib.Core.List.{List, [], ◌∷◌, map}
 use lib.Dec.{eqb, leb}
 use lib.ListN.{get_or}
-use Rattle.std.specs.Prelude.{Option, Some, None}
 use Rattle.wire.specs.Numbers.{byte_at}
 use Rattle.wire.specs.Form.{operands_of}
 use Rattle.areas.proofs.Claims.{deletes_told}
 use Rattle.rules.specs.Numbers.{is_accepted, is_code, is_state, code_of, state_of}
 use Rattle.rules.specs.Operands.{code_byte, two_at, reading_of, section_of}
-use Rattle.rules.specs.Places.{any_of, placed, free_section, ending_section, given_section, ended_section, ending_moved, moved_section, passed_track, moved_track}
+use Rattle.rules.specs.Places.{any_of, placed, free_section, ending_section, given_section, ended_section, moved_section, passed_track, moved_track}
 use Rattle.rules.specs.Odometer.{noted_track}
 use Rattle.rules.specs.Commands.{stopped, carried_out}
 use Rattle.rules.specs.Runs.{Sent, answer_to, state_after, state_at_end, none_accepted, is_of, orders_cs, freshens}
@@ -120,13 +119,11 @@ module _ (id place : ℕ) (stm : Stm) where
   gone_moved : (moving : Bool) (length moved : ℕ) (section : Section) → Gone id section → Gone id (moved_on moving length moved section)
   unfolding moved_section
   gone_moved true length moved section g =
-      cond_by (Gone id) section.held (ending_moved length moved section section.ending) section (λ _. by section.ending) (λ _. g)
-    where
-      by : (ending : Option ℕ) → Gone id (ending_moved length moved section ending)
-      by None = g
-      by (Some covered) =
-          cond_by (Gone id) (leb (100 * length) (covered + moved)) free_section (ending_section section (covered + moved)) (λ _. refl)
-          (λ _. g)
+      cond_by (Gone id) (section.held && section.ending)
+      (cond (leb (100 * length) (section.covered + moved)) free_section (ending_section section (section.covered + moved))) section
+      (λ _. cond_by (Gone id) (leb (100 * length) (section.covered + moved)) free_section (ending_section section (section.covered + moved))
+      (λ _. refl) (λ _. g))
+      (λ _. g)
   gone_moved false length moved section g = g
 
   gone_changed : (n : ℕ) (g : Section → Section) → ((old : Section) → Gone id old → Gone id (g old)) → Gone id (section_at place stm)
@@ -204,16 +201,14 @@ module _ (id place : ℕ) where
       gone_over (state_after stm x) xs (one_gone stm x (is_accepted (answer_to stm x)) refl t.0 g) t.1
 
 -- a section that does not end stays where it is
-standing_moved : (moving : Bool) (length moved : ℕ) (section : Section) → section.ending ≡ None
+standing_moved : (moving : Bool) (length moved : ℕ) (section : Section) → section.ending ≡ false
     → moved_on moving length moved section ≡ section
 unfolding moved_section
-standing_moved true length moved section e =
-    cond_by (λ new. new ≡ section) section.held (ending_moved length moved section section.ending) section
-    (λ _. ap (ending_moved length moved section) e) (λ _. refl)
+standing_moved true length moved section e = rw (e, and-false section.held)
 standing_moved false length moved section e = refl
 
 stays_over : (id place : ℕ) (stm : Stm) (xs : List Sent)
-    → (section_at place stm).held ≡ true → (section_at place stm).ending ≡ None → (section_at place stm).id ≡ id
+    → (section_at place stm).held ≡ true → (section_at place stm).ending ≡ false → (section_at place stm).id ≡ id
     → none_accepted (touches_section id) stm xs ≡ true
     → section_at place (state_at_end stm xs) ≡ section_at place stm
 unfolding state_at_end
@@ -229,39 +224,41 @@ pub section_stays : SectionStays
 section_stays stm xs place held stands n = stays_over (section_at place stm).id place stm xs held stands refl n
 
 -- an ending one: its ground grows, or its place is free
-ends_moved : (length moved covered : ℕ) (section : Section) → section.held ≡ true → section.ending ≡ Some covered
-    → covered + moved < 100 * length → EndsWith (covered + moved) section (moved_section length moved section)
-ends_moved length moved covered section held ending l =
-    rw ((section_ends_at_rear length moved covered section held ending).0 l)
-    (record { held = held; id = refl; speed = refl; ending = refl })
+ends_moved : (length moved : ℕ) (section : Section) → section.held ≡ true → section.ending ≡ true
+    → section.covered + moved < 100 * length → EndsWith (section.covered + moved) section (moved_section length moved section)
+ends_moved length moved section held ending l =
+    rw ((section_ends_at_rear length moved section held ending).0 l)
+    (record { held = held; id = refl; speed = refl; ending = refl; covered = refl })
 
-one_ends : (moving : Bool) (length moved covered : ℕ) (section : Section) → section.held ≡ true → section.ending ≡ Some covered
-    → covered + cond moving moved 0 < 100 * length
-    → EndsWith (covered + cond moving moved 0) section (moved_on moving length moved section)
-one_ends true length moved covered section held ending l = ends_moved length moved covered section held ending l
-one_ends false length moved covered section held ending l =
-    record { held = held; id = refl; speed = refl; ending = ending ∙ ap Some (sym (add-zero covered)) }
+one_ends : (moving : Bool) (length moved : ℕ) (section : Section) → section.held ≡ true → section.ending ≡ true
+    → section.covered + cond moving moved 0 < 100 * length
+    → EndsWith (section.covered + cond moving moved 0) section (moved_on moving length moved section)
+one_ends true length moved section held ending l = ends_moved length moved section held ending l
+one_ends false length moved section held ending l =
+    record { held = held; id = refl; speed = refl; ending = ending; covered = sym (add-zero section.covered) }
 
-one_over : (moving : Bool) (length moved covered : ℕ) (section : Section) (id : ℕ) → section.held ≡ true → section.ending ≡ Some covered
-    → covered < 100 * length → 100 * length ≤ covered + cond moving moved 0
+one_over : (moving : Bool) (length moved : ℕ) (section : Section) (id : ℕ) → section.held ≡ true → section.ending ≡ true
+    → section.covered < 100 * length → 100 * length ≤ section.covered + cond moving moved 0
     → Gone id (moved_on moving length moved section)
-one_over true length moved covered section id held ending before l = rw ((section_ends_at_rear length moved covered section held ending).1 l)
-one_over false length moved covered section id held ending before l = absurd (omega (arith, before, l))
+one_over true length moved section id held ending before l = rw ((section_ends_at_rear length moved section held ending).1 l)
+one_over false length moved section id held ending before l = absurd (omega (arith, before, l))
 
 ends_both : {m n : ℕ} {a b c : Section} → EndsWith m a b → EndsWith n b c → EndsWith n a c
-ends_both p q = record { held = q.held; id = q.id ∙ p.id; speed = q.speed ∙ p.speed; ending = q.ending }
+ends_both p q = record { held = q.held; id = q.id ∙ p.id; speed = q.speed ∙ p.speed; ending = q.ending; covered = q.covered }
 
 -- what is claimed of a list, by the ground that it moves
 module _ (id place length : ℕ) where
   pub record Ends (stm after : Stm) (covered : ℕ) : Type 0 where
-    pub still : covered < 100 * length → EndsWith covered (section_at place stm) (section_at place after)
-    pub gone : 100 * length ≤ covered → Gone id (section_at place after)
+    pub still :
+        (section_at place stm).covered + covered < 100 * length
+        → EndsWith ((section_at place stm).covered + covered) (section_at place stm) (section_at place after)
+    pub gone : 100 * length ≤ (section_at place stm).covered + covered → Gone id (section_at place after)
 
   -- a section that ends, with less ground than the train's length
-  pub record Ending (stm : Stm) (covered : ℕ) : Type 0 where
+  pub record Ending (stm : Stm) : Type 0 where
     pub held : (section_at place stm).held ≡ true
-    pub ending : (section_at place stm).ending ≡ Some covered
-    pub below : covered < 100 * length
+    pub ending : (section_at place stm).ending ≡ true
+    pub below : (section_at place stm).covered < 100 * length
     pub same : (section_at place stm).id ≡ id
     pub train : stm.train.length ≡ length
 
@@ -274,8 +271,7 @@ module _ (id place length : ℕ) where
       rw (train_after_lem stm x e) (ap (λ t. t.length) (train_kept (code_of (code_byte x.command)) (operands_of x.command) stm start) ∙ h)
   length_kept stm x false e n h = rw (after_other stm x e) h
 
-  module _ (stm : Stm) (x : Sent) (xs : List Sent) (covered : ℕ) (n : none_accepted (touches_section id) stm (x ∷ xs) ≡ true)
-      (s : Ending stm covered) where
+  module _ (stm : Stm) (x : Sent) (xs : List Sent) (n : none_accepted (touches_section id) stm (x ∷ xs) ≡ true) (s : Ending stm) where
     abbrev accepted : Bool
     accepted = is_accepted (answer_to stm x)
 
@@ -291,70 +287,70 @@ module _ (id place length : ℕ) where
         one_moved id place stm x accepted refl s.held s.same spares.0
         ∙ ap (λ l. moved_on (accepted && is_moving stm x.command) l (moved_of x.command) (section_at place stm)) s.train
 
-    first_ends : covered + moved < 100 * length → EndsWith (covered + moved) (section_at place stm) (section_at place (state_after stm x))
+    first_ends : (section_at place stm).covered + moved < 100 * length
+        → EndsWith ((section_at place stm).covered + moved) (section_at place stm) (section_at place (state_after stm x))
     first_ends l =
         rw first_moved
-        (one_ends (accepted && is_moving stm x.command) length (moved_of x.command) covered (section_at place stm) s.held s.ending l)
+        (one_ends (accepted && is_moving stm x.command) length (moved_of x.command) (section_at place stm) s.held s.ending l)
 
-    first_gone : 100 * length ≤ covered + moved → Gone id (section_at place (state_after stm x))
+    first_gone : 100 * length ≤ (section_at place stm).covered + moved → Gone id (section_at place (state_after stm x))
     first_gone l =
         rw first_moved
-        (one_over (accepted && is_moving stm x.command) length (moved_of x.command) covered (section_at place stm) id s.held s.ending
+        (one_over (accepted && is_moving stm x.command) length (moved_of x.command) (section_at place stm) id s.held s.ending
         s.below l)
 
-    still_ending : covered + moved < 100 * length → Ending (state_after stm x) (covered + moved)
+    still_ending : (section_at place stm).covered + moved < 100 * length → Ending (state_after stm x)
     still_ending l =
         let e = first_ends l in
         record {
           held = e.held;
           ending = e.ending;
-          below = l;
+          below = rw e.covered l;
           same = e.id ∙ s.same;
           train = length_kept stm x accepted refl spares.0 s.train;
         }
 
-    module _ (rest : Ending (state_after stm x) (covered + moved)
-        → Ends (state_after stm x) (state_at_end (state_after stm x) xs) (covered + moved + ground_over (state_after stm x) xs)) where
+    module _ (rest : Ending (state_after stm x) → Ends (state_after stm x) (state_at_end (state_after stm x) xs) (ground_over (state_after stm x) xs)) where
       abbrev later : ℕ
       later = ground_over (state_after stm x) xs
 
-      on_ends : covered + moved < 100 * length → Ends stm (state_at_end (state_after stm x) xs) (covered + (moved + later))
+      on_ends : (section_at place stm).covered + moved < 100 * length → Ends stm (state_at_end (state_after stm x) xs) (moved + later)
       on_ends l =
+          let e = first_ends l in
           let r = rest (still_ending l) in
-          let sums : covered + moved + later ≡ covered + (moved + later) = omega arith in
+          let sums : (section_at place (state_after stm x)).covered + later ≡ (section_at place stm).covered + (moved + later) = omega (arith, e.covered) in
           record {
-            still = λ h. ends_both (first_ends l) (rw sums at (r.still (rw sums h)));
+            still = λ h. ends_both e (rw sums at (r.still (rw sums h)));
             gone = λ h. r.gone (rw sums h);
           }
 
-      on_gone : 100 * length ≤ covered + moved → Ends stm (state_at_end (state_after stm x) xs) (covered + (moved + later))
+      on_gone : 100 * length ≤ (section_at place stm).covered + moved → Ends stm (state_at_end (state_after stm x) xs) (moved + later)
       on_gone l = record {
         still = λ h. absurd (omega (arith, l, h));
         gone = λ h. gone_over id place (state_after stm x) xs (first_gone l) spares.1;
       }
 
-      on : Ends stm (state_at_end (state_after stm x) xs) (covered + (moved + later))
-      on = elim (dec_lt (covered + moved) (100 * length)) [ yes l ↦ on_ends l | no l ↦ on_gone (omega arith) ]
+      on : Ends stm (state_at_end (state_after stm x) xs) (moved + later)
+      on = elim (dec_lt ((section_at place stm).covered + moved) (100 * length)) [ yes l ↦ on_ends l | no l ↦ on_gone (omega arith) ]
 
-  ends_over : (stm : Stm) (xs : List Sent) (covered : ℕ) → none_accepted (touches_section id) stm xs ≡ true → Ending stm covered
-      → Ends stm (state_at_end stm xs) (covered + ground_over stm xs)
+  ends_over : (stm : Stm) (xs : List Sent) → none_accepted (touches_section id) stm xs ≡ true → Ending stm
+      → Ends stm (state_at_end stm xs) (ground_over stm xs)
   unfolding collected state_at_end
-  ends_over stm [] covered n s = record {
+  ends_over stm [] n s = record {
     still = λ h. record {
       held = s.held;
       id = refl;
       speed = refl;
-      ending = s.ending ∙ ap Some (sym (add-zero covered));
+      ending = s.ending;
+      covered = sym (add-zero (section_at place stm).covered);
     };
     gone = λ h. absurd (omega (arith, h, s.below));
   }
-  ends_over stm (x ∷ xs) covered n s =
-      rw (ground_step stm x xs)
-      (on stm x xs covered n s
-      (ends_over (state_after stm x) xs (covered + moved stm x xs covered n s) (spares stm x xs covered n s).1))
+  ends_over stm (x ∷ xs) n s =
+      rw (ground_step stm x xs) (on stm x xs n s (ends_over (state_after stm x) xs (spares stm x xs n s).1))
 
 pub section_ends_over_ground : SectionEndsOverGround
-section_ends_over_ground stm xs place covered held ending below n =
-    let ends = ends_over (section_at place stm).id place stm.train.length stm xs covered n
+section_ends_over_ground stm xs place held ending below n =
+    let ends = ends_over (section_at place stm).id place stm.train.length stm xs n
     (record { held = held; ending = ending; below = below; same = refl; train = refl }) in
     (ends.still, ends.gone)

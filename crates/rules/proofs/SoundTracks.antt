@@ -2,11 +2,10 @@
 use mathlib.Core.Path.{◌≡◌, refl, sym, subst}
 use Prim.Native.Nat.{ℕ, ◌+◌, ◌-◌, ◌*◌, ◌≤◌}
 use native.Mathlib.Omega.{arith}
-use mathlib.Core.Bool.{Bool, true, false, ◌&&◌}
+use mathlib.Core.Bool.{Bool, true, false, cond, ◌&&◌}
 use mathlib.Core.List.{List, map}
 use lib.Dec.{leb, ltb}
 use borrow.Author.Tests.{leb-true, leb-false, le-leb, lt-ltb}
-use Rattle.std.specs.Prelude.{Option, Some, None}
 use Rattle.curve.specs.declared.Curve.{Curve}
 use Rattle.curve.specs.declared.Judged.{Judged}
 use Rattle.curve.specs.Ground.{moved_by}
@@ -19,7 +18,7 @@ use Rattle.areas.specs.Rows.{is_taken}
 use Rattle.areas.specs.Stays.{fresh_stay, cleared_stay, deletes_sections}
 use Rattle.rules.specs.Operands.{within, speed_in_range, curve_in_range, section_in_range}
 use Rattle.curve.specs.Free.{free_curve}
-use Rattle.rules.specs.Places.{all_of, free_section, no_sections, empty_track, fresh_track, cleared_track, passed_track, is_curve, is_section, with_past, given_curve, ended_curve, given_section, ending_section, ended_section, ending_moved, moved_section, moved_track}
+use Rattle.rules.specs.Places.{all_of, free_section, no_sections, empty_track, fresh_track, cleared_track, passed_track, is_curve, is_section, with_past, given_curve, ended_curve, given_section, ending_section, ended_section, moved_section, moved_track}
 use Rattle.rules.specs.Units.{is_curve_sound, is_ground_sound, is_section_sound, is_stay_sound}
 use Rattle.rules.specs.declared.Section.{Section}
 use Rattle.rules.specs.declared.Track.{Track}
@@ -87,7 +86,7 @@ module _ (length : ℕ) where
   unfolding section_in_range
   ending_sound section covered below =
       let range = section_in_range section in
-      let before = is_ground_sound length section.ending in
+      let before = is_ground_sound length section in
       if_mono section.held (range && before) (range && ltb covered (100 * length))
       (λ e. and_both range (ltb covered (100 * length)) (and_left range before e) below)
 
@@ -100,28 +99,29 @@ module _ (length : ℕ) where
 
   -- ground moved: where it reaches the train's length the place is free, and elsewhere it stays below
   module _ (moved : ℕ) where
-    onward_holds : (section : Section) (ending : Option ℕ) → (ending_moved length moved section ending).held ≡ true
-        → (section.held ≡ true) × ((ending_moved length moved section ending).id ≡ section.id)
-    onward_holds section None = λ h. (h, refl)
-    onward_holds section (Some covered) =
-        let sum = covered + moved in
-        cond_by (λ new. new.held ≡ true → (section.held ≡ true) × (new.id ≡ section.id)) (leb (100 * length) sum) free_section
-        (ending_section section sum) (λ _ e. impossible e) (λ _ h. (h, refl))
+    abbrev reaches : Section → Bool
+    reaches section = leb (100 * length) (section.covered + moved)
 
-    onward_sound : (section : Section) (ending : Option ℕ) → is_section_sound length section ≡ true
-        → is_section_sound length (ending_moved length moved section ending) ≡ true
-    onward_sound section None e = e
-    onward_sound section (Some covered) e =
-        let sum = covered + moved in
-        cond_by (λ new. is_section_sound length new ≡ true) (leb (100 * length) sum) free_section (ending_section section sum) (λ _. refl)
-        (λ t. ending_sound section sum (lt-ltb sum (100 * length) (leb-false (100 * length) sum t)) e)
+    abbrev onward : Section → Section
+    onward section = cond (reaches section) free_section (ending_section section (section.covered + moved))
+
+    onward_holds : (section : Section) → (onward section).held ≡ true
+        → (section.held ≡ true) × ((onward section).id ≡ section.id)
+    onward_holds section =
+        cond_by (λ new. new.held ≡ true → (section.held ≡ true) × (new.id ≡ section.id)) (reaches section) free_section
+        (ending_section section (section.covered + moved)) (λ _ e. impossible e) (λ _ h. (h, refl))
+
+    onward_sound : (section : Section) → is_section_sound length section ≡ true → is_section_sound length (onward section) ≡ true
+    onward_sound section e =
+        let covered = section.covered + moved in
+        cond_by (λ new. is_section_sound length new ≡ true) (reaches section) free_section (ending_section section covered) (λ _. refl)
+        (λ t. ending_sound section covered (lt-ltb covered (100 * length) (leb-false (100 * length) covered t)) e)
 
     sections_moved : (sections : List Section) → SectionsSound length sections
         → SectionsSound length (map (moved_section length moved) sections)
     unfolding moved_section
     sections_moved sections s =
-        changed_sound s (λ section. section.held) (λ section. ending_moved length moved section section.ending)
-        (λ section _. onward_holds section section.ending) (λ section. onward_sound section section.ending)
+        changed_sound s (λ section. section.held && section.ending) onward (λ section _. onward_holds section) onward_sound
 
 -- ---- the track
 

@@ -86,10 +86,10 @@ AllHeldMeansAll =
 -- "Ending a section at the front of the train" does not happen: it ends when the ground moved since reaches the train's length
 abbrev pub SectionEndsAtRear : Type 0
 SectionEndsAtRear =
-    (length moved covered : ℕ) (section : Section)
-    → section.held ≡ true → section.ending ≡ Some covered
-    → (covered + moved < 100 * length → moved_section length moved section ≡ ending_section section (covered + moved))
-    × (100 * length ≤ covered + moved → moved_section length moved section ≡ free_section)
+    (length moved : ℕ) (section : Section)
+    → section.held ≡ true → section.ending ≡ true
+    → (section.covered + moved < 100 * length → moved_section length moved section ≡ ending_section section (section.covered + moved))
+    × (100 * length ≤ section.covered + moved → moved_section length moved section ≡ free_section)
 
 -- ---- speeds
 

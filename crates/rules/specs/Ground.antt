@@ -1,5 +1,5 @@
 -- Ground: what a list of commands takes off every d and adds to every ending section, each report once. Proved in proofs/.
-use Rattle.std.specs.Prelude.{◌≡◌, ℕ, ◌+◌, ◌-◌, ◌*◌, ◌≤◌, ◌<◌, Bool, true, false, cond, ◌&&◌, ◌||◌, List, [], ◌∷◌, ◌++◌, eqb, replicate, Some, None}
+use Rattle.std.specs.Prelude.{◌≡◌, ℕ, ◌+◌, ◌-◌, ◌*◌, ◌≤◌, ◌<◌, Bool, true, false, cond, ◌&&◌, ◌||◌, List, [], ◌∷◌, ◌++◌, eqb, replicate}
 use Rattle.std.proofs.Math.Option.{Option, none, some}
 use Rattle.curve.specs.declared.Curve.{Curve}
 use Rattle.rules.specs.Numbers.{is_accepted}
@@ -46,7 +46,7 @@ touches_section id before command = freshens command || names_section id command
 abbrev pub SectionStays : Type 0
 SectionStays =
     (stm : Stm) (xs : List Sent) (place : ℕ)
-    → (section_at place stm).held ≡ true → (section_at place stm).ending ≡ None
+    → (section_at place stm).held ≡ true → (section_at place stm).ending ≡ false
     → none_accepted (touches_section (section_at place stm).id) stm xs ≡ true
     → section_at place (state_at_end stm xs) ≡ section_at place stm
 
@@ -55,18 +55,19 @@ pub record EndsWith (moved : ℕ) (before after : Section) : Type 0 where
   pub held : after.held ≡ true
   pub id : after.id ≡ before.id
   pub speed : after.speed ≡ before.speed
-  pub ending : after.ending ≡ Some moved
+  pub ending : after.ending ≡ true
+  pub covered : after.covered ≡ moved
 
 -- and from the report on that reaches it its place holds its id no more
 abbrev pub SectionEndsOverGround : Type 0
 SectionEndsOverGround =
-    (stm : Stm) (xs : List Sent) (place covered : ℕ)
-    → (section_at place stm).held ≡ true → (section_at place stm).ending ≡ Some covered
-    → covered < 100 * stm.train.length
+    (stm : Stm) (xs : List Sent) (place : ℕ)
+    → (section_at place stm).held ≡ true → (section_at place stm).ending ≡ true
+    → (section_at place stm).covered < 100 * stm.train.length
     → none_accepted (touches_section (section_at place stm).id) stm xs ≡ true
-    → (covered + ground_over stm xs < 100 * stm.train.length
-    → EndsWith (covered + ground_over stm xs) (section_at place stm) (section_at place (state_at_end stm xs)))
-    × (100 * stm.train.length ≤ covered + ground_over stm xs
+    → ((section_at place stm).covered + ground_over stm xs < 100 * stm.train.length
+    → EndsWith ((section_at place stm).covered + ground_over stm xs) (section_at place stm) (section_at place (state_at_end stm xs)))
+    × (100 * stm.train.length ≤ (section_at place stm).covered + ground_over stm xs
     → ((section_at place (state_at_end stm xs)).held && eqb (section_at place (state_at_end stm xs)).id (section_at place stm).id) ≡ false)
 
 -- ---- free places

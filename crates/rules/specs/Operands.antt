@@ -1,6 +1,6 @@
 -- The operands of the commands and their ranges (01, "Commands", the table's third column). Each is read at its place after the
 -- code and the number; refusals 3 and 4 have gone before.
-use Rattle.std.specs.Prelude.{ℕ, ◌*◌, ◌/◌, ◌%◌, ◌^◌, Bool, true, false, cond, ◌&&◌, ◌||◌, List, eqb, leb, drop, None}
+use Rattle.std.specs.Prelude.{ℕ, ◌*◌, ◌/◌, ◌%◌, ◌^◌, Bool, true, false, cond, ◌&&◌, ◌||◌, List, eqb, leb, drop}
 use Rattle.wire.specs.Numbers.{byte_at, number, signed}
 use Rattle.pressure.specs.declared.Feed.{Feed}
 use Rattle.curve.specs.declared.Kind.{Kind}
@@ -162,7 +162,7 @@ new_curve_in_range s = leb (byte_at s 1) 1 && curve_in_range (curve_of s)
 -- ---- 22 section
 
 unfoldable pub section_of : List ℕ → Section
-section_of s = record { held = true; id = byte_at s 0; speed = two_at s 1; ending = None }
+section_of s = record { held = true; id = byte_at s 0; speed = two_at s 1; ending = false; covered = 0 }
 
 -- "id 1, 0–254; speed 2, 10–300"
 unfoldable pub section_in_range : Section → Bool

@@ -1,6 +1,6 @@
 -- The places of curves, sections and ET records, and the whole track (01, "Answers", refusals 12 and 13 and what follows them; "Curves";
 -- 02, F-6 and F-7).
-use Rattle.std.specs.Prelude.{ℕ, ◌+◌, ◌*◌, Bool, true, false, cond, not, ◌&&◌, ◌||◌, List, [], ◌∷◌, ◌++◌, map, eqb, leb, replicate, Option, Some, None, is_none}
+use Rattle.std.specs.Prelude.{ℕ, ◌+◌, ◌*◌, Bool, true, false, cond, not, ◌&&◌, ◌||◌, List, [], ◌∷◌, ◌++◌, map, eqb, leb, replicate}
 use Rattle.curve.specs.declared.Curve.{Curve}
 use Rattle.curve.specs.Free.{free_curve}
 use Rattle.places.specs.Places.{places, moved_all}
@@ -30,7 +30,7 @@ placed held new (x ∷ xs) = cond (held x) (x ∷ placed held new xs) (new ∷ x
 
 -- a place that holds no section
 abbrev pub free_section : Section
-free_section = record { held = false; id = 0; speed = 0; ending = None }
+free_section = record { held = false; id = 0; speed = 0; ending = false; covered = 0 }
 
 -- no section at any place
 abbrev pub no_sections : List Section
@@ -107,7 +107,7 @@ holds_section id sections = any_of (is_section id) sections
 
 -- refusal 12: "its section is already ending", so that what can be ended is held and doesn't end yet
 abbrev pub stands_section : ℕ → List Section → Bool
-stands_section id sections = any_of (λ section. is_section id section && is_none section.ending) sections
+stands_section id sections = any_of (λ section. is_section id section && not section.ending) sections
 
 -- refusal 13: "all 16 sections, held"; an ending one is held
 abbrev pub all_sections_held : List Section → Bool
@@ -127,20 +127,19 @@ ending_section section covered = record {
   held = section.held;
   id = section.id;
   speed = section.speed;
-  ending = Some covered;
+  ending = true;
+  covered = covered;
 }
 
 unfoldable pub ended_section : ℕ → List Section → List Section
 ended_section id sections = map (λ section. cond (is_section id section) (ending_section section 0) section) sections
 
 -- "an ending one until the ground moved since reaches the train's length"; the length is in m
-abbrev pub ending_moved : ℕ → ℕ → Section → Option ℕ → Section
-ending_moved length moved section None = section
-ending_moved length moved section (Some covered) =
-    cond (leb (100 * length) (covered + moved)) free_section (ending_section section (covered + moved))
-
 unfoldable pub moved_section : ℕ → ℕ → Section → Section
-moved_section length moved section = cond section.held (ending_moved length moved section section.ending) section
+moved_section length moved section =
+    cond (section.held && section.ending)
+    (cond (leb (100 * length) (section.covered + moved)) free_section (ending_section section (section.covered + moved)))
+    section
 
 -- ---- ET records (02, F-7)
 

@@ -1,6 +1,6 @@
 -- What is called a unit (01, "The buyer's note"): "any state with its commands' figures in range, distances, sums and counts as
 -- commands can leave them, no curve id and no section id held twice and, in DA, a reference pressure".
-use Rattle.std.specs.Prelude.{◌≡◌, ℕ, ◌*◌, Bool, true, false, not, ◌&&◌, ◌||◌, List, [], ◌∷◌, eqb, leb, ltb, ℤ, length, Option, Some, None}
+use Rattle.std.specs.Prelude.{◌≡◌, ℕ, ◌*◌, Bool, true, false, cond, not, ◌&&◌, ◌||◌, List, [], ◌∷◌, eqb, leb, ltb, ℤ, length, Option, Some, None}
 use Rattle.wire.specs.Codes.{longest}
 use Rattle.wire.specs.Form.{report_length}
 use Rattle.pressure.specs.declared.Phase.{Phase}
@@ -39,14 +39,13 @@ use Rattle.rules.specs.declared.Train.{Train}
 abbrev pub is_curve_sound : Curve → Bool
 is_curve_sound curve = not curve.held || curve_in_range curve
 
--- a place is free, or its section's figures are in range and its ground is as reports leave it: none while the section stands, and
+-- a place is free, or its section's figures are in range and its ground is as reports leave it: 0 while the section stands, and
 -- below the train's length while it ends
-abbrev pub is_ground_sound : ℕ → Option ℕ → Bool
-is_ground_sound length None = true
-is_ground_sound length (Some covered) = ltb covered (100 * length)
+abbrev pub is_ground_sound : ℕ → Section → Bool
+is_ground_sound length section = cond section.ending (ltb section.covered (100 * length)) (eqb section.covered 0)
 
 abbrev pub is_section_sound : ℕ → Section → Bool
-is_section_sound length section = not section.held || section_in_range section && is_ground_sound length section.ending
+is_section_sound length section = not section.held || section_in_range section && is_ground_sound length section
 
 -- 02, F-6: a GMD's speed is in range and was passed in this stay, in the partial area; the ground of a pending 50 m is below them, in the
 -- fully equipped area

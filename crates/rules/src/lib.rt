@@ -142,13 +142,14 @@ pub struct Train {
     pub check: u8,
 }
 
-// A section, or a place that holds none. `ending` is the ground moved since its end was told (None: it isn't told).
+// A section, or a place that holds none. `covered` is the ground moved since its end was told.
 #[derive(Clone, Copy)]
 pub struct Section {
     pub held: bool,
     pub id: u8,
     pub speed: u16,
-    pub ending: Option<u32>,
+    pub ending: bool,
+    pub covered: u32,
 }
 
 // What the track has told: curves, sections, the 40 of an unexpected stop, the stay in an area (02, F-6),

@@ -1,5 +1,5 @@
 // The places of sections: a new one, one whose end is told, the ground moved since. What places have in common is `holding`'s.
-ghost use Rattle.std.specs.Prelude.{◌≡◌, ◌&&◌, map, is_none};
+ghost use Rattle.std.specs.Prelude.{◌≡◌, not, ◌&&◌, map};
 ghost use Rattle.rules.specs.Places.{free_section, is_section, holds_section, stands_section, all_sections_held, given_section, ended_section, moved_section};
 
 use holding::Place;
@@ -22,9 +22,9 @@ pub fn holds_section(id: u8, sections: [Section; PLACES]) -> bool
 
 // Whether this place holds the id and its end isn't told.
 fn is_standing(id: u8, section: Section) -> bool
-    ensures { result ≡ (is_section id section && is_none section.ending) }
+    ensures { result ≡ (is_section id section && not section.ending) }
 {
-    holding::is_at(id, section) & section.ending.is_none()
+    holding::is_at(id, section) & !section.ending
 }
 
 // Whether a place holds the id and its end isn't told.
@@ -66,20 +66,19 @@ pub fn end_section(id: u8, sections: [Section; PLACES]) -> [Section; PLACES]
 fn moved_section(length: u16, moved: u16, section: Section) -> Section
     ensures { result ≡ moved_section length moved section }
 {
-    match section.ending {
-        Some(covered) if section.held => {
-            let sum = u64::from(covered) + u64::from(moved);
-            let whole = 100 * u64::from(length);
-            if whole <= sum {
-                free_section()
-            } else {
-                Section {
-                    ending: Some(sum as u32),
-                    ..section
-                }
+    if section.held & section.ending {
+        let covered = u64::from(section.covered) + u64::from(moved);
+        let whole = 100 * u64::from(length);
+        if whole <= covered {
+            free_section()
+        } else {
+            Section {
+                covered: covered as u32,
+                ..section
             }
         }
-        _ => section,
+    } else {
+        section
     }
 }
 
