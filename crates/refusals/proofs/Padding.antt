@@ -1,14 +1,10 @@
 -- Laws of the bytes of a command with 0 after its end. Assumes nothing.
 use Prim.Native.Nat.{ℕ, zero, suc, ◌≤◌, ◌<◌}
 use mathlib.Core.Path.{◌≡◌, refl, ap}
-use mathlib.Core.Bool.{Bool, true, false, cond, ◌&&◌}
 use mathlib.Core.List.{List, [], ◌∷◌, ◌++◌}
 use native.Mathlib.Nat.{le_of_suc-le-suc, not-suc-le-zero}
 use native.Mathlib.Omega.{arith}
 use lib.ListN.{length, take, drop, replicate}
-use lib.Dec.{eqb}
-use lib.Pointwise.{pointwise}
-use Rattle.wire.specs.Bytes.{same_bytes}
 use Rattle.rules.specs.Commands.{padded}
 
 -- no bytes are padded with 0 alone
@@ -28,15 +24,3 @@ padded_copy (suc k) zero s h l m = absurd (not-suc-le-zero h)
 padded_copy (suc k) (suc n) [] h l m = absurd (not-suc-le-zero l)
 padded_copy (suc k) (suc n) (x ∷ s) h l m =
     ap (◌∷◌ x) (padded_copy k n s (le_of_suc-le-suc h) (le_of_suc-le-suc l) (λ i. le_of_suc-le-suc (m (omega (arith, i)))))
-
-both : (t : Bool) {a b : Bool} → a ≡ b → t && a ≡ cond t b false
-both true e = e
-both false e = refl
-
--- the comparison of two arrays of bytes
-pub same_items : (xs ys : List ℕ) → pointwise eqb xs ys ≡ same_bytes xs ys
-unfolding same_bytes
-same_items [] [] = refl
-same_items [] (y ∷ ys) = refl
-same_items (x ∷ xs) [] = refl
-same_items (x ∷ xs) (y ∷ ys) = both (eqb x y) (same_items xs ys)

@@ -39,7 +39,7 @@ pub fn padded(command: &[u8]) -> [u8; LONGEST]
 fn is_last(last: [u8; LONGEST], command: &[u8]) -> bool
     ensures { result ≡ same_bytes last (padded longest command.now) }
 {
-    last == padded(command)
+    wire::same(&last, &padded(command))
 }
 
 // Whether the number is one more than the last accepted one.

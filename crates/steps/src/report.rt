@@ -22,7 +22,7 @@ use rules::{
 };
 use track::shows::{change_of, chosen, showing_of};
 use track::whole::{all_curves, braking_of, judge_now, permitted_speed, vmax_of};
-use wire::REPORT_LENGTH;
+use wire::{REPORT_LENGTH, high, high_pair, low, low_pair};
 
 // What a report in DA looks at beside the unit: what all that may be curves say, VMAX and what is seen.
 #[derive(Clone, Copy)]
@@ -135,29 +135,30 @@ fn report_in_da(view: &View, stm: &Stm) -> [u8; REPORT_LENGTH]
         is_insufficient(stm.train, stm.feedback),
         candidate,
     );
-    let number = causes_number(causes).to_be_bytes();
-    let permitted = permitted_speed(view.vmax, view.judged).to_be_bytes();
-    let vmax = view.vmax.to_be_bytes();
-    let change = change_of(stm.train, stm.kept, candidate).to_be_bytes();
+    let number = causes_number(causes);
+    let permitted = permitted_speed(view.vmax, view.judged);
+    let change = change_of(stm.train, stm.kept, candidate);
+    let first = high_pair(change);
+    let last = low_pair(change);
     [
         u8::from(State::DA),
         u8::from(order_of(stm.train.softly, causes)),
-        number[0],
-        number[1],
-        permitted[0],
-        permitted[1],
-        vmax[0],
-        vmax[1],
+        high(number),
+        low(number),
+        high(permitted),
+        low(permitted),
+        high(view.vmax),
+        low(view.vmax),
         shown.id,
         shown.interval,
         shown.bar,
         shown.mode,
         messages_of(stm.brakes, stm.feedback, stm.test, candidate.et),
         offered_of(view.seen, causes),
-        change[0],
-        change[1],
-        change[2],
-        change[3],
+        high(first),
+        low(first),
+        high(last),
+        low(last),
         u8::from(stm.track.stay.area),
     ]
 }

@@ -1,4 +1,3 @@
-use Rattle.std.proofs.Common.{rules}
 use Rattle.steps.proofs.InDA.{bytes_in_da}
 use Rattle.steps.proofs.report.report_in_da.Goals as goal
 
@@ -9,20 +8,24 @@ returns c =
     c.is_over.ensures
     c.is_insufficient.ensures
     c.shown_fields-shown.ensures
-    c.causes_number.ensures
-    c.causes_number.type_inv
-    c.to_be_bytes-number.ensures
-    c.permitted_speed.ensures
-    c.permitted_speed.type_inv
-    c.to_be_bytes-permitted.ensures
-    (search rules)
-    c.to_be_bytes-vmax.ensures
-    c.change_of.ensures
-    c.change_of.type_inv
-    c.to_be_bytes-change.ensures
+    c.causes_number-number.ensures
+    c.permitted_speed-permitted.ensures
+    c.change_of-change.ensures
+    c.high_pair-first.ensures
+    c.low_pair-last.ensures
     c.from.ensures
     c.order_of.ensures
     c.from-2.ensures
+    c.high.ensures
+    c.low.ensures
+    c.high-2.ensures
+    c.low-2.ensures
+    c.high-3.ensures
+    c.low-3.ensures
     c.messages_of.ensures
     c.offered_of.ensures
+    c.high-4.ensures
+    c.low-4.ensures
+    c.high-5.ensures
+    c.low-5.ensures
     c.from-3.ensures
