@@ -11,9 +11,10 @@ const RECORD: usize = 34;
 
 const AREA: usize = 32;
 
+// Standard output has no buffer: the two digits of a byte go out in one write.
 fn put_bytes(out: &mut impl Write, bytes: &[u8]) -> io::Result<()> {
     for byte in bytes {
-        write!(out, "{byte:02X}")?;
+        out.write_all(&[wire::digit(*byte / 16), wire::digit(*byte)])?;
     }
     Ok(())
 }

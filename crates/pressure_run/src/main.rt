@@ -44,18 +44,19 @@ fn feed_of(kind: u8) -> Feed {
     }
 }
 
+// Standard output has no buffer, and each piece of a `write!` is a write of its own: so the names bring their blanks.
 fn feed_name(feed: Feed) -> &'static str {
     match feed {
-        Feed::Pipe => "pipe",
-        Feed::Cylinder => "cylinder",
+        Feed::Pipe => "pipe ",
+        Feed::Cylinder => "cylinder ",
     }
 }
 
 fn phase_name(phase: Phase) -> &'static str {
     match phase {
-        Phase::Waiting => "waiting",
-        Phase::Settling { .. } => "settling",
-        Phase::Set { .. } => "set",
+        Phase::Waiting => " waiting",
+        Phase::Settling { .. } => " settling",
+        Phase::Set { .. } => " set",
     }
 }
 
@@ -67,7 +68,7 @@ fn put_measured(out: &mut impl Write, m: Measured) -> io::Result<()> {
     put_kpa(out, p.reference)?;
     write!(out, " drop ")?;
     put_kpa(out, pressure::drop_of(p))?;
-    write!(out, " {}", phase_name(m.phase))?;
+    write!(out, "{}", phase_name(m.phase))?;
     if m.fault {
         write!(out, " TRYCKGIVARFEL")?;
     }
@@ -88,7 +89,7 @@ fn turn(
     let external = wire::signed16(wire::be16(&record, 4));
     let before = found(wire::byte_at(&record, 0), feedback, wire::be16(&record, 6));
     let after = pressure::report(before.phase, before.pressures, feed, full, external);
-    write!(out, "{} {full} ", feed_name(feed))?;
+    write!(out, "{}{full} ", feed_name(feed))?;
     put_kpa(out, external as f32 / 2.0)?;
     put_measured(out, after)?;
     Ok(Some(after))
