@@ -59,7 +59,7 @@ fn main(rt: HostRuntime) -> io::Result<()> {
     let mut out = rt.stdout();
     let mut stm = unit::fresh();
     for _ in 0..u32::MAX {
-        let Some(record) = console::read_record::<RECORD, _>(&mut input)? else {
+        let Some(record) = console::read_record(&mut input, [0; RECORD])? else {
             break;
         };
         let mut area = [0xAAu8; AREA];

@@ -1,10 +1,10 @@
 // Reading until a buffer is full, reading a record, and writing all of a buffer, as the programs do.
 #![tactic(auto)]
 
-ghost use Rattle.std.specs.Prelude.{◌≡◌, ◌^◌, ◌<◌, length, take, None, IfOk, IfSome, OnOk, OnErr};
+ghost use Rattle.std.specs.Prelude.{◌≡◌, ◌<◌, length, take, None, IfOk, IfSome, OnOk, OnErr};
 ghost use Rattle.std.specs.Io.{ReadsAtMost};
 ghost use Rattle.std.specs.Io.KnownBytes.{Appends, Consumes, IsAtEnd};
-ghost use Rattle.console.specs.Bytes.{AppendsFront};
+ghost use Rattle.console.specs.Bytes.{AppendsFront, ConsumesFewer};
 
 use std::io;
 use std::io::{ErrorKind, Read, Write};
@@ -28,13 +28,16 @@ pub fn read_full<R: Read>(input: &mut R, buffer: &mut [u8]) -> io::Result<usize>
     Ok(n)
 }
 
-/// Reads a record of so many bytes, or none where the input ends before it is whole.
-pub fn read_record<const N: usize, R: Read>(input: &mut R) -> io::Result<Option<[u8; N]>>
-    requires { N < 2 ^ 63 }
+/// Reads a record over an array of its size, or none where the input ends before it is whole.
+pub fn read_record<const N: usize, R: Read>(
+    input: &mut R,
+    record: [u8; N],
+) -> io::Result<Option<[u8; N]>>
     ensures whole { IfOk result (λ r. IfSome r (λ bytes. Consumes (R.remaining input.old) (R.remaining input.new) bytes)) }
+    ensures cut_off { IfOk result (λ r. r ≡ None → ConsumesFewer (R.remaining input.old) (R.remaining input.new) N) }
     ensures end { IfOk result (λ r. r ≡ None → IsAtEnd (R.remaining input.new)) }
 {
-    let mut record = [0u8; N];
+    let mut record = record;
     if read_full(input, &mut record)? < N {
         return Ok(None);
     }

@@ -172,7 +172,7 @@ fn turn(
     out: &mut impl Write,
     curves: [Curve; PLACES],
 ) -> io::Result<Option<[Curve; PLACES]>> {
-    let Some(record) = console::read_record::<25, _>(input)? else {
+    let Some(record) = console::read_record(input, [0; 25])? else {
         return Ok(None);
     };
     let next = after(out, &record, curves)?;

@@ -1,3 +1,4 @@
 pub mod Claims
 pub mod Example
+pub mod Rooms
 pub mod Streams

@@ -10,6 +10,7 @@ ghost use Rattle.portions.specs.Portions.{given_of};
 ghost use Rattle.portions.specs.Reads.{text_by};
 ghost use Rattle.line.specs.Lines.{line_width};
 ghost use Rattle.output.specs.Streams.{lines, handed_on, given_in};
+ghost use Rattle.output.specs.Rooms.{lines_in, room_for_a_line};
 
 pub use portions::Handed;
 use portions::{INPUT, Tell, Told};
@@ -27,6 +28,8 @@ impl Tell for Lines {
 
     ghost writer = { lines };
 
+    ghost writer_in = { lines_in };
+
     ghost WIDTH = { line_width };
 
     const WIDTH: usize = line::WIDTH;
@@ -43,6 +46,8 @@ impl Tell for Lines {
     }
 
     ghost some_width = { Prim.search rules };
+
+    ghost wide_enough = { room_for_a_line };
 }
 
 // Hands on what can be given of the bytes, as far as there is room for the lines. `all` says that no bytes come after these.
@@ -65,5 +70,5 @@ pub fn turn(
     ensures outcome { result ≡ handed_on stm (given_of (eqb to left) (take to input.now)) }
     ensures written { output.new ≡ placed (text_by lines stm (given_of (eqb to left) (take to input.now)).portions) output.old }
 {
-    portions::turn::<Lines>(stm, input, left, to, output)
+    hand_on(stm, portions::part(input, 0, to), to == left, output)
 }

@@ -117,10 +117,12 @@ module _ {X : Type 0} {w : Writer X} {width : ℕ} {x₀ : X} {bytes out₀ : Li
           let n = portion_within in
           let long = room_length used bytes in omega (arith, n, long, s.inside)
 
-    -- a portion is told: the state that comes of it, the bytes written, and the room as it comes back
-    module _ (p : Portion) (n : ℕ) (next : X) (told : ℕ) (part : List ℕ) (which : next_portion all (from_on used bytes) ≡ Some p) (long : n ≡ portion_length p)
-        (called : next ≡ w.next x (take n (from_on used bytes))) (counted : told ≡ length (w.text x (take n (from_on used bytes)))) (narrow : told ≤ width)
-        (put : part ≡ placed (w.text x (take n (from_on used bytes))) (from_on written out)) where
+    -- a portion is told as the writer does in the room that is left, which is wide enough: the state that comes of it, the bytes written, and
+    -- the room as it comes back
+    module _ (v : Writer X) (alike : (x : X) (p : List ℕ) → (v.next x p ≡ w.next x p) × (v.text x p ≡ w.text x p))
+        (p : Portion) (n : ℕ) (next : X) (told : ℕ) (part : List ℕ) (which : next_portion all (from_on used bytes) ≡ Some p) (long : n ≡ portion_length p)
+        (called : next ≡ v.next x (take n (from_on used bytes))) (counted : told ≡ length (v.text x (take n (from_on used bytes)))) (narrow : told ≤ width)
+        (put : part ≡ placed (v.text x (take n (from_on used bytes))) (from_on written out)) where
       abbrev rest : List ℕ
       rest = drop used bytes
 
@@ -136,8 +138,11 @@ module _ {X : Type 0} {w : Writer X} {width : ℕ} {x₀ : X} {bytes out₀ : Li
       is_portion : take n (from_on used bytes) ≡ portion
       is_portion = rw (long, to_end used bytes)
 
+      is_text : v.text x (take n (from_on used bytes)) ≡ text
+      is_text = (alike x (take n (from_on used bytes))).1 ∙ ap (w.text x) is_portion
+
       is_told : told ≡ length text
-      is_told = counted ∙ ap (λ q. length (w.text x q)) is_portion
+      is_told = counted ∙ ap length is_text
 
       within : written + length text ≤ length out
       within =
@@ -145,7 +150,7 @@ module _ {X : Type 0} {w : Writer X} {width : ℕ} {x₀ : X} {bytes out₀ : Li
           let k = wide in omega (arith, t, k, narrow, s.room, s.same)
 
       is_put : part ≡ placed text (from_on written out)
-      is_put = put ∙ ap (λ q. placed (w.text x q) (from_on written out)) is_portion
+      is_put = put ∙ ap (λ t. placed t (from_on written out)) is_text
 
       pub told_same : length after ≡ length out₀
       told_same = put_length written out text part within is_put ∙ s.same
@@ -163,7 +168,7 @@ module _ {X : Type 0} {w : Writer X} {width : ℕ} {x₀ : X} {bytes out₀ : Li
       is_which = rw (to_end used bytes) at which
 
       is_next_lem : next ≡ w.next x portion
-      is_next_lem = called ∙ ap (w.next x) is_portion
+      is_next_lem = called ∙ (alike x (take n (from_on used bytes))).0 ∙ ap (w.next x) is_portion
 
       -- and the loop goes on
       pub stands_next : is_last p ≡ false → Stands w width x₀ bytes out₀ all most next (used + n) (written + told) (i + 1) after

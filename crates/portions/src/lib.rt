@@ -1,6 +1,6 @@
 // A stream as the unit is given it: portion by portion, out of bytes that come in reads.
 //
-// No public function has a `requires`: each is defined at every input. What a writer is asked to `tell` has room for its widest text.
+// No public function has a `requires`: each is defined at every input, and what a writer does to `tell` a portion at every room.
 #![tactic(auto)]
 
 mod bytes;
@@ -12,4 +12,4 @@ pub const INPUT: usize = 16384;
 
 pub use bytes::{part, to_front};
 pub use next::{Portion, next_portion};
-pub use telling::{Handed, Tell, Told, hand_on, turn};
+pub use telling::{Handed, Tell, Told, hand_on};

@@ -1,12 +1,10 @@
 // Portions are handed to a writer, one behind the other.
-ghost use Rattle.std.specs.Prelude.{◌≡◌, ◌≤◌, ◌<◌, ◌/◌, ℕ, eqb, length, take};
+ghost use Rattle.std.specs.Prelude.{◌≡◌, ◌≤◌, ◌<◌, ◌/◌, ℕ, List, length};
 ghost use Rattle.wire.specs.Bytes.{placed};
 ghost use Rattle.portions.specs.Portions.{given_within};
 ghost use Rattle.portions.specs.Reads.{Writer, text_by};
 ghost use Rattle.portions.specs.Told.{handed_to};
 
-use crate::INPUT;
-use crate::bytes::part;
 use crate::next::next_portion;
 
 // What has come of one portion: the next state, and how many bytes its text has.
@@ -32,19 +30,26 @@ pub trait Tell {
 
     ghost writer: { Writer Self.State };
 
+    // The writer where there are so many bytes of room.
+    ghost writer_in: { ℕ → Writer Self.State };
+
     ghost WIDTH: { ℕ };
 
     const WIDTH: usize;
 
     // Hands one portion on, and puts its text at the front of the room.
     fn tell(state: Self::State, portion: &[u8], room: &mut [u8]) -> Told<Self::State>
-        requires { WIDTH ≤ length room.old }
-        ensures state_after { result.state ≡ writer.next state portion.now }
-        ensures count { result.written ≡ length (writer.text state portion.now) }
+        ensures state_after { result.state ≡ (writer_in (length room.old)).next state portion.now }
+        ensures count { result.written ≡ length ((writer_in (length room.old)).text state portion.now) }
         ensures short { result.written ≤ WIDTH }
-        ensures written { room.new ≡ placed (writer.text state portion.now) room.old };
+        ensures written { room.new ≡ placed ((writer_in (length room.old)).text state portion.now) room.old };
 
     ghost some_width: { 0 < WIDTH };
+
+    // Where there is room for the widest text, more of it makes no difference.
+    ghost wide_enough: { (room : ℕ) (x : Self.State) (p : List ℕ)
+        → WIDTH ≤ room
+        → ((writer_in room).next x p ≡ writer.next x p) × ((writer_in room).text x p ≡ writer.text x p) };
 }
 
 // Hands on what can be given of the bytes, as far as there is room for the texts. `all` says that no bytes come after these.
@@ -91,19 +96,4 @@ pub fn hand_on<T: Tell>(
         written,
         ended: false,
     }
-}
-
-// A turn of a program: `left` bytes were left at the front of the input, and with those that were read after them there are
-// `to`. Where none were read, the input has ended.
-pub fn turn<T: Tell>(
-    state: T::State,
-    input: &[u8; INPUT],
-    left: usize,
-    to: usize,
-    output: &mut [u8],
-) -> Handed<T::State>
-    ensures outcome { result ≡ handed_to T.writer state (given_within (length output.old / T.WIDTH) (eqb to left) (take to input.now)) }
-    ensures written { output.new ≡ placed (text_by T.writer state (given_within (length output.old / T.WIDTH) (eqb to left) (take to input.now)).portions) output.old }
-{
-    hand_on::<T>(state, part(input, 0, to), to == left, output)
 }

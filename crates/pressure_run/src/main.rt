@@ -81,7 +81,7 @@ fn turn(
     out: &mut impl Write,
     feedback: Measured,
 ) -> io::Result<Option<Measured>> {
-    let Some(record) = console::read_record::<8, _>(input)? else {
+    let Some(record) = console::read_record(input, [0; 8])? else {
         return Ok(None);
     };
     let feed = feed_of(wire::byte_at(&record, 1));

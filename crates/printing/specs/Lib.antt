@@ -1,2 +1,3 @@
 pub mod Claims
+pub mod Rooms
 pub mod Sheets

@@ -10,6 +10,7 @@ ghost use Rattle.portions.specs.Portions.{given_of};
 ghost use Rattle.portions.specs.Reads.{text_by};
 ghost use Rattle.sheet.specs.Paging.{added_width};
 ghost use Rattle.printing.specs.Sheets.{fresh_trip, printer, handed_on, given_in};
+ghost use Rattle.printing.specs.Rooms.{printer_in, room_for_the_most};
 
 use paging::ADDED;
 pub use portions::Handed;
@@ -46,6 +47,8 @@ impl Tell for Printer {
 
     ghost writer = { printer };
 
+    ghost writer_in = { printer_in };
+
     ghost WIDTH = { added_width };
 
     const WIDTH: usize = ADDED;
@@ -72,6 +75,8 @@ impl Tell for Printer {
     }
 
     ghost some_width = { Prim.search rules };
+
+    ghost wide_enough = { room_for_the_most };
 }
 
 // Hands on what can be given of the bytes, as far as there is room for what it adds. `all` says that no bytes come after these.
@@ -94,5 +99,5 @@ pub fn turn(
     ensures outcome { result ≡ handed_on trip (given_of (eqb to left) (take to input.now)) }
     ensures written { output.new ≡ placed (text_by printer trip (given_of (eqb to left) (take to input.now)).portions) output.old }
 {
-    portions::turn::<Printer>(trip, input, left, to, output)
+    hand_on(trip, portions::part(input, 0, to), to == left, output)
 }

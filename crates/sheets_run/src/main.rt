@@ -30,7 +30,7 @@ fn main(rt: HostRuntime) -> io::Result<()> {
     let mut input = rt.stdin();
     let mut out = rt.stdout();
     for _ in 0..u32::MAX {
-        let Some(record) = console::read_record::<RECORD, _>(&mut input)? else {
+        let Some(record) = console::read_record(&mut input, [0; RECORD])? else {
             break;
         };
         print(&mut out, &record)?;

@@ -1,21 +1,23 @@
 // Reads raw command bytes from a stream, hands them on, and writes what comes of them to another, as 01 says, and 02 of the trip sheet.
 //
 // What is handed on, and which bytes are written for it, is proved in `portions`, `output` and `printing`. Here nothing is decided: a turn
-// is a read, `portions::turn`, a write.
+// is a read, the program's turn, a write.
 #![tactic(auto)]
 
-ghost use Rattle.std.specs.Prelude.{◌≡◌, ◌+◌, ◌-◌, ◌*◌, ◌/◌, ◌^◌, ◌<◌, ◌≤◌, length, take, IfOk, IfSome, OnOk, OnErr};
+ghost use Rattle.std.specs.Prelude.{◌≡◌, ◌-◌, ◌^◌, ◌<◌, ◌≤◌, eqb, length, take, IfOk, IfSome, OnOk, OnErr};
+ghost use Rattle.std.proofs.Common.{rules};
 ghost use Rattle.std.specs.Io.KnownBytes.{Appends, Consumes, IsAtEnd, Keeps};
 ghost use Rattle.std.proofs.Math.Seq.{slice};
 ghost use Rattle.console.specs.Bytes.{AppendsFront};
 ghost use Rattle.wire.specs.Bytes.{placed};
-ghost use Rattle.wire.specs.Codes.{shortest};
-ghost use Rattle.portions.specs.Portions.{portions_of};
-ghost use Rattle.portions.specs.Reads.{text_by, input_room};
-ghost use Rattle.output.specs.Streams.{stream_of};
+ghost use Rattle.portions.specs.Portions.{given_of, portions_of};
+ghost use Rattle.portions.specs.Reads.{Writer, text_by, input_room};
+ghost use Rattle.portions.specs.Told.{handed_to};
+ghost use Rattle.output.specs.Streams.{lines, stream_of};
 
 use output::{Lines, OUTPUT};
-use portions::{INPUT, Tell};
+use portions::{Handed, INPUT};
+use rules::Stm;
 use std::io;
 use std::io::{Read, Write};
 
@@ -65,16 +67,52 @@ pub fn keep(input: &mut [u8; INPUT], used: usize, to: usize) -> usize
     portions::to_front(input, used, to)
 }
 
-// Runs a writer of texts from a state until the stream ends, or a read or a write fails. Memory is fixed, whatever the input.
-pub fn run_from<T: Tell, const ROOM: usize, R: Read, W: Write>(
+// A program's turn, with room for the texts of all that can be given of the input: none waits until more bytes come.
+pub trait Turn<const ROOM: usize> {
+    type State: Copy;
+
+    ghost writer: { Writer Self.State };
+
+    // `left` bytes were left at the front of the input, and with those that were read after them there are `to`. Where none
+    // were read, the input has ended.
+    fn turn(
+        state: Self::State,
+        input: &[u8; INPUT],
+        left: usize,
+        to: usize,
+        room: &mut [u8; ROOM],
+    ) -> Handed<Self::State>
+        ensures outcome { result ≡ handed_to writer state (given_of (eqb to left) (take to input.now)) }
+        ensures written { room.new ≡ placed (text_by writer state (given_of (eqb to left) (take to input.now)).portions) room.old };
+
+    // A run has memory for the room, as for any array.
+    ghost fits: { ROOM < 2 ^ 63 };
+}
+
+impl Turn<OUTPUT> for Lines {
+    type State = Stm;
+
+    ghost writer = { lines };
+
+    fn turn(
+        stm: Stm,
+        input: &[u8; INPUT],
+        left: usize,
+        to: usize,
+        room: &mut [u8; OUTPUT],
+    ) -> Handed<Stm> {
+        output::turn(stm, input, left, to, room)
+    }
+
+    ghost fits = { Prim.search rules };
+}
+
+// Runs a program's turns from a state until the stream ends, or a read or a write fails. Memory is fixed, whatever the input.
+pub fn run_from<T: Turn<ROOM>, const ROOM: usize, R: Read, W: Write>(
     state: T::State,
     stdin: &mut R,
     stdout: &mut W,
 ) -> io::Result<()>
-    // There is room for the texts of all that can be given of the input: none waits until more bytes come.
-    requires room { (input_room / shortest + 2) * T.WIDTH ≤ ROOM }
-    requires fits { ROOM < 2 ^ 63 }
-
     // Where all went well, the text of the whole input is written, however it came in reads: of an input of up to
     // 2^64 - 2 bytes, which no run reads.
     ensures whole { OnOk result (IfSome (R.remaining stdin.old)
@@ -91,7 +129,7 @@ pub fn run_from<T: Tell, const ROOM: usize, R: Read, W: Write>(
     // A proved loop ends, and nothing says that the input does: so the turns are counted.
     for _ in 0..u64::MAX {
         let to = read(stdin, &mut input, left)?;
-        let handed = portions::turn::<T>(state, &input, left, to, &mut room);
+        let handed = T::turn(state, &input, left, to, &mut room);
         write(stdout, &room, handed.written)?;
         if handed.ended {
             return Ok(());

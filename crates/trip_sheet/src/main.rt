@@ -4,13 +4,37 @@
 #![tactic(auto)]
 
 ghost use Rattle.std.specs.Prelude.{◌-◌, ◌^◌, ◌<◌, length, IfSome, OnOk};
+ghost use Rattle.std.proofs.Common.{rules};
 ghost use Rattle.std.specs.Io.KnownBytes.{Appends};
 ghost use Rattle.console.specs.Bytes.{AppendsFront};
-ghost use Rattle.printing.specs.Sheets.{trip_sheet};
+ghost use Rattle.printing.specs.Sheets.{printer, trip_sheet};
 
-use printing::{OUTPUT, Printer};
+use portions::{Handed, INPUT};
+use printing::{OUTPUT, Trip};
 use std::io;
 use std::io::{Read, Write};
+use stdio::Turn;
+
+// The program that prints the sheet.
+struct Sheets;
+
+impl Turn<OUTPUT> for Sheets {
+    type State = Trip;
+
+    ghost writer = { printer };
+
+    fn turn(
+        trip: Trip,
+        input: &[u8; INPUT],
+        left: usize,
+        to: usize,
+        room: &mut [u8; OUTPUT],
+    ) -> Handed<Trip> {
+        printing::turn(trip, input, left, to, room)
+    }
+
+    ghost fits = { Prim.search rules };
+}
 
 // Runs until the stream ends, or a read or a write fails. Memory is fixed, whatever the input.
 fn run<R: Read, W: Write>(stdin: &mut R, stdout: &mut W) -> io::Result<()>
@@ -23,7 +47,7 @@ fn run<R: Read, W: Write>(stdin: &mut R, stdout: &mut W) -> io::Result<()>
     ensures beginning { IfSome (R.remaining stdin.old)
         (λ input. AppendsFront (W.contents stdout.old) (W.contents stdout.new) (trip_sheet input)) }
 {
-    stdio::run_from::<Printer, OUTPUT, R, W>(printing::fresh(), stdin, stdout)
+    stdio::run_from::<Sheets, OUTPUT, R, W>(printing::fresh(), stdin, stdout)
 }
 
 fn main(rt: HostRuntime) -> io::Result<()> {

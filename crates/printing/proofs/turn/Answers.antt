@@ -1,3 +1,4 @@
+-- there is room for all that is added.
 use mathlib.Core.Path.{◌≡◌, ◌∙◌}
 use native.Mathlib.Omega.{arith}
 use lib.Dec.{eqb}
@@ -19,4 +20,4 @@ returns c =
     let long = length-take a.to a.input.now in
     let whole : given_in (length a.output.now) all bytes ≡ given_of all bytes =
     rw output (all_has_room all bytes (omega (arith, input, long))) in
-    record { outcome = c.turn.ensures.outcome ∙ rw whole; written = c.turn.ensures.written ∙ rw whole }
+    let part = c.part.ensures in record { outcome = c.hand_on.ensures.outcome ∙ rw (part, whole); written = c.hand_on.ensures.written ∙ rw (part, whole) }

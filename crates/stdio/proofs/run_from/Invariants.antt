@@ -7,5 +7,5 @@ use Rattle.stdio.proofs.run_from.Given as goal
 
 abbrev pub invariant-loop : goal.invariant-loop
 invariant-loop g l =
-    (s : Stands g.T.Tell.writer l.initial.state (g.R.Read.remaining l.initial.stdin) (g.R.Read.remaining l.stdin) (g.W.Write.contents l.initial.stdout) (g.W.Write.contents l.stdout) l.state (take l.left l.input))
+    (s : Stands g.T.Turn.writer l.initial.state (g.R.Read.remaining l.initial.stdin) (g.R.Read.remaining l.stdin) (g.W.Write.contents l.initial.stdout) (g.W.Write.contents l.stdout) l.state (take l.left l.input))
     × ((l.left < longest) × (l.counter ≤ length s.came))

@@ -1,7 +1,7 @@
 use Rattle.std.proofs.Common.{arith, ◌/◌, ◌*◌, ◌≤◌, length, sym, ◌∙◌}
 use Rattle.std.proofs.Math.Nat.{div-mul-le_self}
 use lib.Seq.{length-take-le}
-use Rattle.portions.proofs.Turns.{is_handed, stands_first, stands_next, handed_all, handed_most, handed_last, portion_within, used_within}
+use Rattle.portions.proofs.Turns.{has_room, is_handed, stands_first, stands_next, handed_all, handed_most, handed_last, portion_within, used_within}
 use Rattle.portions.proofs.telling.hand_on.Goals as goal
 
 pub loop-init : goal.loop-init
@@ -31,25 +31,28 @@ overflow_add-used g c =
 pub returns-then-is_last-clause-outcome : goal.returns-then-is_last-clause-outcome
 returns-then-is_last-clause-outcome g c =
     let t = c.tell-told.ensures in
+    let wide = has_room c.loop.invariant c.loop-test.true in
     let which = sym c.next_portion.ensures ∙ c.in-Some.is in
     let end = sym c.is_last.ensures ∙ c.if-is_last.true in
-    let h = handed_last c.loop.invariant c.loop-test.true c.in-Some.portion _ _ _ _ which c.length-n.ensures t.state_after t.count t.short t.written end in
+    let h = handed_last c.loop.invariant c.loop-test.true (g.T.Tell.writer_in _) (λ x p. g.met.T.Tell.wide_enough _ x p wide) c.in-Some.portion _ _ _ _ which c.length-n.ensures t.state_after t.count t.short t.written end in
     rw (sym c.WIDTH.ensures) (is_handed h)
 
 pub returns-then-is_last-clause-written : goal.returns-then-is_last-clause-written
 returns-then-is_last-clause-written g c =
     let t = c.tell-told.ensures in
+    let wide = has_room c.loop.invariant c.loop-test.true in
     let which = sym c.next_portion.ensures ∙ c.in-Some.is in
     let end = sym c.is_last.ensures ∙ c.if-is_last.true in
-    let h = handed_last c.loop.invariant c.loop-test.true c.in-Some.portion _ _ _ _ which c.length-n.ensures t.state_after t.count t.short t.written end in
+    let h = handed_last c.loop.invariant c.loop-test.true (g.T.Tell.writer_in _) (λ x p. g.met.T.Tell.wide_enough _ x p wide) c.in-Some.portion _ _ _ _ which c.length-n.ensures t.state_after t.count t.short t.written end in
     rw (sym c.WIDTH.ensures) h.room
 
 pub loop-preserved : goal.loop-preserved
 loop-preserved g c =
     let t = c.tell-told.ensures in
+    let wide = has_room c.loop.invariant c.loop-test.true in
     let which = sym c.next_portion.ensures ∙ c.in-Some.is in
     let more = sym c.is_last.ensures ∙ c.if-is_last.false in
-    stands_next c.loop.invariant c.loop-test.true c.in-Some.portion _ _ _ _ which c.length-n.ensures t.state_after t.count t.short t.written more
+    stands_next c.loop.invariant c.loop-test.true (g.T.Tell.writer_in _) (λ x p. g.met.T.Tell.wide_enough _ x p wide) c.in-Some.portion _ _ _ _ which c.length-n.ensures t.state_after t.count t.short t.written more
 
 pub returns-clause-outcome : goal.returns-clause-outcome
 returns-clause-outcome g c =
