@@ -1,7 +1,7 @@
 -- A turn of such a loop: a read behind the bytes that are left, what is handed on of the bytes at hand, and the write of its text. Assumes
 -- nothing.
-use Rattle.std.specs.Prelude.{ℕ, ◌≤◌, ◌<◌, Bool, true, false, eqb, Option, IfSome, List, ◌++◌, length, take, drop}
-use Rattle.std.proofs.Common.{◌≡◌, refl, sym, ap, ◌∙◌, arith, le_refl, take-append-drop, take_all}
+use Rattle.std.specs.Prelude.{ℕ, ◌+◌, ◌*◌, ◌/◌, ◌≤◌, ◌<◌, Bool, true, false, eqb, Option, IfSome, List, ◌++◌, length, take, drop}
+use Rattle.std.proofs.Common.{◌≡◌, refl, sym, ap, ◌∙◌, arith, le_refl, take-append-drop, take_all, length-take}
 use Rattle.std.proofs.Math.Seq.{slice, length-slice}
 use borrow.Author.Tests.{eqb-false}
 use Rattle.std.proofs.lemmas.Bool.{eqb-true}
@@ -11,12 +11,12 @@ use mathlib.Core.List.{flatten}
 use lib.Seq.{take-take, take-append_seam}
 use Rattle.console.specs.Bytes.{AppendsFront}
 use Rattle.wire.specs.Bytes.{placed}
-use Rattle.wire.specs.Codes.{longest}
-use Rattle.portions.specs.Portions.{given_of, left_of, portions_of}
+use Rattle.wire.specs.Codes.{shortest, longest}
+use Rattle.portions.specs.Portions.{given_within, given_of, left_of, portions_of}
 use Rattle.portions.specs.Reads.{Writer, text_by, state_by, input_room}
 use Rattle.portions.specs.Told.{handed_to}
 use Rattle.portions.specs.declared.telling.Handed.{Handed}
-use Rattle.portions.proofs.Giving.{all_ended, waits_short}
+use Rattle.portions.proofs.Giving.{all_ended, all_has_room, waits_short}
 use Rattle.stdio.proofs.Standing.{Stands, follows, begun_more, whole}
 
 -- what a read did to a buffer, in which bytes were left at the front
@@ -76,18 +76,29 @@ pub record Turned {X : Type 0} (w : Writer X) (state : X) (left to : ℕ) (input
   pub used : handed.used ≡ length (flatten (given_of (eqb to left) (take to input)).portions)
   pub ended : handed.ended ≡ (given_of (eqb to left) (take to input)).ended
 
-pub turned : {X : Type 0} {w : Writer X} {state : X} {left to : ℕ} {input out : List ℕ} {handed : Handed X} (out₀ : List ℕ)
+pub turned_all : {X : Type 0} {w : Writer X} {state : X} {left to : ℕ} {input out : List ℕ} {handed : Handed X} (out₀ : List ℕ)
     → handed ≡ handed_to w state (given_of (eqb to left) (take to input))
     → out ≡ placed (text_by w state (given_of (eqb to left) (take to input)).portions) out₀
     → Turned w state left to input handed out
 unfolding handed_to
-turned {w = w} {state = state} {left = left} {to = to} {input = input} out₀ outcome written = record {
+turned_all {w = w} {state = state} {left = left} {to = to} {input = input} out₀ outcome written = record {
   text =
       rw (ap (λ h. h.written) outcome, written) (front_is_text (text_by w state (given_of (eqb to left) (take to input)).portions) out₀);
   after = ap (λ h. h.state) outcome;
   used = ap (λ h. h.used) outcome;
   ended = ap (λ h. h.ended) outcome;
 }
+
+-- the same of a room, where it is large enough
+pub turned : {X : Type 0} {w : Writer X} {state : X} {left to : ℕ} {input out : List ℕ} {handed : Handed X} (width : ℕ) (out₀ : List ℕ)
+    → 0 < width → (input_room / shortest + 2) * width ≤ length out₀ → length input ≡ input_room
+    → handed ≡ handed_to w state (given_within (length out₀ / width) (eqb to left) (take to input))
+    → out ≡ placed (text_by w state (given_within (length out₀ / width) (eqb to left) (take to input)).portions) out₀
+    → Turned w state left to input handed out
+turned {w = w} {state = state} {left = left} {to = to} {input = input} width out₀ some room long outcome written =
+    let few : length (take to input) ≤ input_room = omega (arith, length-take to input, long) in
+    let whole = all_has_room width (length out₀) (eqb to left) (take to input) some room few in
+    turned_all out₀ (outcome ∙ ap (handed_to w state) whole) (written ∙ ap (λ g. placed (text_by w state g.portions) out₀) whole)
 
 module _ {X : Type 0} (w : Writer X) (x : X) where
   pub turn_whole : {r r' o o' : Option (List ℕ)} {state : X} {left : ℕ} {before : List ℕ} → Stands w x r r' o o' state (take left before)

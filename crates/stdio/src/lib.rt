@@ -4,6 +4,8 @@
 // is a read, the program's turn, a write.
 #![tactic(auto)]
 
+mod writers;
+
 ghost use Rattle.std.specs.Prelude.{◌≡◌, ◌-◌, ◌^◌, ◌<◌, ◌≤◌, eqb, length, take, IfOk, IfSome, OnOk, OnErr};
 ghost use Rattle.std.proofs.Common.{rules};
 ghost use Rattle.std.specs.Io.KnownBytes.{Appends, Consumes, IsAtEnd, Keeps};
@@ -20,6 +22,7 @@ use portions::{Handed, INPUT};
 use rules::Stm;
 use std::io;
 use std::io::{Read, Write};
+pub use writers::run_from;
 
 // Reads into a buffer after the bytes that are left, and tells where the bytes end then. An input that has ended brings none. A read that
 // fails leaves them too.
@@ -108,7 +111,7 @@ impl Turn<OUTPUT> for Lines {
 }
 
 // Runs a program's turns from a state until the stream ends, or a read or a write fails. Memory is fixed, whatever the input.
-pub fn run_from<T: Turn<ROOM>, const ROOM: usize, R: Read, W: Write>(
+pub fn run_turns<T: Turn<ROOM>, const ROOM: usize, R: Read, W: Write>(
     state: T::State,
     stdin: &mut R,
     stdout: &mut W,
@@ -151,5 +154,5 @@ pub fn run<R: Read, W: Write>(stdin: &mut R, stdout: &mut W) -> io::Result<()>
     ensures beginning { IfSome (R.remaining stdin.old)
         (λ input. AppendsFront (W.contents stdout.old) (W.contents stdout.new) (stream_of input)) }
 {
-    run_from::<Lines, OUTPUT, R, W>(unit::fresh(), stdin, stdout)
+    run_turns::<Lines, OUTPUT, R, W>(unit::fresh(), stdin, stdout)
 }

@@ -47,7 +47,7 @@ fn run<R: Read, W: Write>(stdin: &mut R, stdout: &mut W) -> io::Result<()>
     ensures beginning { IfSome (R.remaining stdin.old)
         (λ input. AppendsFront (W.contents stdout.old) (W.contents stdout.new) (trip_sheet input)) }
 {
-    stdio::run_from::<Sheets, OUTPUT, R, W>(printing::fresh(), stdin, stdout)
+    stdio::run_turns::<Sheets, OUTPUT, R, W>(printing::fresh(), stdin, stdout)
 }
 
 fn main(rt: HostRuntime) -> io::Result<()> {

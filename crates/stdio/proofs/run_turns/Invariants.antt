@@ -3,7 +3,7 @@
 use Rattle.std.proofs.Common.{◌<◌, ◌≤◌, length, take}
 use Rattle.wire.specs.Codes.{longest}
 use Rattle.stdio.proofs.Standing.{Stands}
-use Rattle.stdio.proofs.run_from.Given as goal
+use Rattle.stdio.proofs.run_turns.Given as goal
 
 abbrev pub invariant-loop : goal.invariant-loop
 invariant-loop g l =

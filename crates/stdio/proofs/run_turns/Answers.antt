@@ -2,8 +2,8 @@
 use Rattle.std.proofs.Common.{rules, arith, sym, ◌∙◌}
 use Rattle.std.specs.Prelude.{eqb}
 use Rattle.stdio.proofs.Standing.{starts, begun, where_few, not_few}
-use Rattle.stdio.proofs.Turning.{came_behind, turned, kept_is_left, all_is_front, turn_whole, turn_begun, turn_on}
-use Rattle.stdio.proofs.run_from.Goals as goal
+use Rattle.stdio.proofs.Turning.{came_behind, turned_all, kept_is_left, all_is_front, turn_whole, turn_begun, turn_on}
+use Rattle.stdio.proofs.run_turns.Goals as goal
 
 pub loop-init : goal.loop-init
 loop-init g c = (starts g.T.Turn.writer c.args.state _ _, (search rules, omega arith))
@@ -22,14 +22,14 @@ pub returns-in_err-write-clause-beginning : goal.returns-in_err-write-clause-beg
 returns-in_err-write-clause-beginning g c =
     let came = c.in_ok-to.ensures in
     let h = came_behind (search rules) c.loop.invariant.1.0 came.input_unchanged came.lower_bound came.upper_bound came.bytes came.end in
-    let t = turned c.loop.room c.turn-handed.ensures.outcome c.turn-handed.ensures.written in
+    let t = turned_all c.loop.room c.turn-handed.ensures.outcome c.turn-handed.ensures.written in
     turn_begun g.T.Turn.writer c.args.state c.loop.invariant.0 c.in_ok-to.to c.read.new.input _ _ h (rw t.text at c.in_err-write.ensures.err)
 
 pub returns-then-handed-clause-whole : goal.returns-then-handed-clause-whole
 returns-then-handed-clause-whole g c =
     let came = c.in_ok-to.ensures in
     let h = came_behind (search rules) c.loop.invariant.1.0 came.input_unchanged came.lower_bound came.upper_bound came.bytes came.end in
-    let t = turned c.loop.room c.turn-handed.ensures.outcome c.turn-handed.ensures.written in
+    let t = turned_all c.loop.room c.turn-handed.ensures.outcome c.turn-handed.ensures.written in
     where_few _ _ _ (turn_whole g.T.Turn.writer c.args.state c.loop.invariant.0 c.in_ok-to.to c.read.new.input _ _ h
     (rw t.text at c.in_ok-write.ensures.ok) (sym t.ended ∙ c.if-handed.true))
 
@@ -37,7 +37,7 @@ pub returns-then-handed-clause-beginning : goal.returns-then-handed-clause-begin
 returns-then-handed-clause-beginning g c =
     let came = c.in_ok-to.ensures in
     let h = came_behind (search rules) c.loop.invariant.1.0 came.input_unchanged came.lower_bound came.upper_bound came.bytes came.end in
-    let t = turned c.loop.room c.turn-handed.ensures.outcome c.turn-handed.ensures.written in
+    let t = turned_all c.loop.room c.turn-handed.ensures.outcome c.turn-handed.ensures.written in
     turn_begun g.T.Turn.writer c.args.state c.loop.invariant.0 c.in_ok-to.to c.read.new.input _ _ h
     (all_is_front _ _ _ (rw t.text at c.in_ok-write.ensures.ok))
 
@@ -45,7 +45,7 @@ pub loop-preserved : goal.loop-preserved
 loop-preserved g c =
     let came = c.in_ok-to.ensures in
     let h = came_behind (search rules) c.loop.invariant.1.0 came.input_unchanged came.lower_bound came.upper_bound came.bytes came.end in
-    let t = turned c.loop.room c.turn-handed.ensures.outcome c.turn-handed.ensures.written in
+    let t = turned_all c.loop.room c.turn-handed.ensures.outcome c.turn-handed.ensures.written in
     let stood = turn_on g.T.Turn.writer c.args.state c.loop.invariant.0 c.in_ok-to.to c.read.new.input _ _ h
     (rw t.text at c.in_ok-write.ensures.ok) (sym t.ended ∙ c.if-handed.false) in
     let kept = kept_is_left (eqb c.in_ok-to.to c.loop.left) c.in_ok-to.to c.read.new.input t.used c.keep-left.ensures.value c.keep-left.ensures.input_after in
